@@ -1,0 +1,4 @@
+pub mod Settings
+pub mod Keys
+pub mod Places
+pub mod Spans

@@ -1,0 +1,21 @@
+-- Laws of `&&` and `if`: what a true conjunction says of its parts, and which way an `if` went.
+-- By cases on the Bools.
+use mathlib.Core.Path.{_≡_, refl}
+use mathlib.Core.Bool.{Bool, true, false, _&&_, false≢true}
+use Rattle.laws.specs.Base.{if}
+
+pub both : (a b : Bool) → a && b ≡ true → (a ≡ true) × (b ≡ true)
+both true b e = (refl, e)
+both false b e = absurd (false≢true e)
+
+pub and-yes : (a b : Bool) → a ≡ true → b ≡ true → a && b ≡ true
+and-yes a b p q = rw (p, q)
+
+-- which way an `if` went, from a value that its other branch is not
+pub if-yes : {A : Type 0} (t : Bool) (x y z : A) → if t x y ≡ z → (y ≡ z → ⊥) → (t ≡ true) × (x ≡ z)
+if-yes true x y z e n = (refl, e)
+if-yes false x y z e n = absurd (n e)
+
+pub if-no : {A : Type 0} (t : Bool) (x y z : A) → if t x y ≡ z → (x ≡ z → ⊥) → (t ≡ false) × (y ≡ z)
+if-no true x y z e n = absurd (n e)
+if-no false x y z e n = (refl, e)

@@ -1,0 +1,25 @@
+-- Laws of `firstNot`: a loop that stops at the first place where the test fails finds it.
+-- The loop's invariant is `firstNot p n 0 ≡ firstNot p (n - k) k`; each law opens one place of what is left.
+use mathlib.Core.Path.{_≡_, sym, _∙_}
+use mathlib.Core.Bool.{Bool, true, false}
+use Prim.Native.Nat.{ℕ, suc, _+_, _-_, _<_}
+use native.Mathlib.Nat.{sub-self, sub-zero}
+use native.Mathlib.Numerals.{add-one}
+use native.Mathlib.Omega.{arith}
+use Rattle.laws.specs.Base.{firstNot}
+
+module _ (p : ℕ → Bool) (n : ℕ) where
+  pub first-start : firstNot p n 0 ≡ firstNot p (n - 0) 0
+  first-start = rw sub-zero
+
+  pub first-next : (k : ℕ) → k < n → p k ≡ true → firstNot p n 0 ≡ firstNot p (n - k) k → firstNot p n 0 ≡ firstNot p (n - (k + 1)) (k + 1)
+  unfolding firstNot
+  first-next k h e i = let q : n - k ≡ suc (n - (k + 1)) = omega arith in i ∙ rw (q, e, add-one k)
+
+  pub first-here : (k : ℕ) → k < n → p k ≡ false → firstNot p n 0 ≡ firstNot p (n - k) k → k ≡ firstNot p n 0
+  unfolding firstNot
+  first-here k h e i = let q : n - k ≡ suc (n - (k + 1)) = omega arith in sym (i ∙ rw (q, e))
+
+  pub first-end : (k : ℕ) → k ≡ n → firstNot p n 0 ≡ firstNot p (n - k) k → n ≡ firstNot p n 0
+  unfolding firstNot
+  first-end k h i = sym (i ∙ rw (h, sub-self))

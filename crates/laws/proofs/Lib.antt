@@ -1,0 +1,5 @@
+pub mod Tests
+pub mod Bools
+pub mod All
+pub mod First
+pub mod Over

@@ -1,0 +1,23 @@
+-- The words that definitions are made of: a choice by a test, a map that knows its places, "all of", "the first that fails".
+use mathlib.Core.Bool.{Bool, true, false, _&&_}
+use Prim.Native.Nat.{ℕ, zero, suc}
+use mathlib.Core.List.{List, [], _∷_}
+
+abbrev pub if : {A : Type 0} → Bool → A → A → A
+if true a b = a
+if false a b = b
+
+-- every element passes the test
+unfoldable pub allB : {A : Type 0} → (A → Bool) → List A → Bool
+allB p [] = true
+allB p (a ∷ l) = p a && allB p l
+
+-- f of each place, counted from i, and of the element there
+unfoldable pub mapI : {A B : Type 0} → (ℕ → A → B) → ℕ → List A → List B
+mapI f i [] = []
+mapI f i (a ∷ l) = f i a ∷ mapI f (suc i) l
+
+-- the first of the n places from k on at which p fails, or k + n where it fails at none
+unfoldable pub firstNot : (ℕ → Bool) → ℕ → ℕ → ℕ
+firstNot p zero k = k
+firstNot p (suc n) k = if (p k) (firstNot p n (suc k)) k

@@ -1,0 +1,13 @@
+-- The range of each line, by its place in the table.
+use Prim.Native.Nat.{ℕ}
+use lib.ListN.{getD}
+use Rattle.text.specs.declared.Range.{Range}
+use Rattle.text.specs.Lines.{rangesOf}
+use Rattle.keys.specs.Settings.{table}
+
+-- past the last line: nothing is in range
+abbrev pub nowhere : Range
+nowhere = record { low = 0; high = 0; digits = 0 }
+
+unfoldable pub rangeAt : ℕ → Range
+rangeAt n = getD (rangesOf table) n nowhere

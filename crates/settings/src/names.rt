@@ -1,0 +1,173 @@
+// The settings by name: with `specs/Names.antt`, the only place that says which value is which.
+ghost use mathlib.Core.Path.{_≡_};
+ghost use Prim.Native.Nat.{_<_};
+ghost use Rattle.settings.specs.Names.{orbitOf, gapOf, rulesOf, warnBlocksOf, ignoresOf, waitsOf, slotOf, scheduleOf, partOf};
+
+// The crossings from `low` to `high` are closed to requests.
+pub struct Gap {
+    pub low: u32,
+    pub high: u32,
+}
+
+// At most `norm` triggers in a period of crossings, or `low` under warning.
+pub struct Rule {
+    pub period: u32,
+    pub norm: u32,
+    pub low: u32,
+}
+
+// Rule 1 is the crossings left free after a trigger.
+pub struct Rules {
+    pub spacing: u32,
+    pub second: Rule,
+    pub third: Rule,
+    pub fourth: Rule,
+}
+
+// Which members the merge leaves out.
+pub struct Ignores {
+    pub disc: bool,
+    pub bad: bool,
+}
+
+// Orbits to wait around a resynchronisation and around a hard reset.
+pub struct Pause {
+    pub resync: u32,
+    pub hard: u32,
+}
+
+// Orbits to wait before and after the signal.
+pub struct Waits {
+    pub settle: Pause,
+    pub recover: Pause,
+}
+
+// The crossing numbers at which the codes of these names are sent.
+pub struct Schedule {
+    pub bc0: u32,
+    pub te: u32,
+    pub resync: u32,
+    pub hard: u32,
+    pub ec0: u32,
+    pub oc0: u32,
+    pub start: u32,
+    pub stop: u32,
+    pub gap: u32,
+    pub wte: u32,
+    pub cal: u32,
+}
+
+impl crate::Settings {
+    pub fn orbit(self) -> u32
+        ensures { λ r. ⌜ r ≡ orbitOf self ⌝ }
+    {
+        self.values[0]
+    }
+
+    pub fn gap(self) -> Gap
+        ensures { λ r. ⌜ r ≡ gapOf self ⌝ }
+    {
+        let v = self.values;
+        Gap {
+            low: v[1],
+            high: v[2],
+        }
+    }
+
+    pub fn rules(self) -> Rules
+        ensures { λ r. ⌜ r ≡ rulesOf self ⌝ }
+    {
+        let v = self.values;
+        let second = Rule {
+            period: v[4],
+            norm: v[5],
+            low: v[6],
+        };
+        let third = Rule {
+            period: v[7],
+            norm: v[8],
+            low: v[9],
+        };
+        let fourth = Rule {
+            period: v[10],
+            norm: v[11],
+            low: v[12],
+        };
+        Rules {
+            spacing: v[3],
+            second: second,
+            third: third,
+            fourth: fourth,
+        }
+    }
+
+    pub fn warn_blocks(self) -> bool
+        ensures { λ r. ⌜ r ≡ warnBlocksOf self ⌝ }
+    {
+        let v = self.values;
+        v[13] == 1
+    }
+
+    pub fn ignores(self) -> Ignores
+        ensures { λ r. ⌜ r ≡ ignoresOf self ⌝ }
+    {
+        let v = self.values;
+        Ignores {
+            disc: v[14] == 1,
+            bad: v[15] == 1,
+        }
+    }
+
+    pub fn waits(self) -> Waits
+        ensures { λ r. ⌜ r ≡ waitsOf self ⌝ }
+    {
+        let v = self.values;
+        let settle = Pause {
+            resync: v[16],
+            hard: v[17],
+        };
+        let recover = Pause {
+            resync: v[18],
+            hard: v[19],
+        };
+        Waits {
+            settle: settle,
+            recover: recover,
+        }
+    }
+
+    // Controller k's share of the orbits, in tens.
+    pub fn slot(self, k: usize) -> u32
+        requires { ⌜ k < 8 ⌝ }
+        ensures { λ r. ⌜ r ≡ slotOf self k ⌝ }
+    {
+        self.values[20 + k]
+    }
+
+    pub fn schedule(self) -> Schedule
+        ensures { λ r. ⌜ r ≡ scheduleOf self ⌝ }
+    {
+        let v = self.values;
+        Schedule {
+            bc0: v[28],
+            te: v[29],
+            resync: v[30],
+            hard: v[31],
+            ec0: v[32],
+            oc0: v[33],
+            start: v[34],
+            stop: v[35],
+            gap: v[36],
+            wte: v[37],
+            cal: v[38],
+        }
+    }
+
+    // The controller of partition p, or 8 for none.
+    pub fn part(self, p: usize) -> u32
+        requires { ⌜ p < 32 ⌝ }
+        ensures { λ r. ⌜ r ≡ partOf self p ⌝ }
+    {
+        self.values[39 + p]
+    }
+}

@@ -1,0 +1,7 @@
+pub mod Bytes
+pub mod Decimal
+pub mod Reading
+pub mod Rows
+pub mod OneLine
+pub mod Tables
+pub mod Walk

@@ -1,0 +1,63 @@
+-- Loops over a table of lines: reading it, laying its text, adding up its length, and finding the first value out of range.
+-- In each, what is left of the table decides as the whole does; a law opens the line at place n. For any table.
+use mathlib.Core.Path.{_≡_, ap, _∙_}
+use mathlib.Core.Bool.{true, false}
+use mathlib.Core.List.{List, [], _++_}
+use Prim.Native.Nat.{ℕ, suc, _+_, _≤_, _<_}
+use native.Mathlib.Numerals.{add-one}
+use native.Mathlib.Omega.{arith}
+use lib.ListN.{length, drop, take, set, getD, length-append, drop-of-length-le}
+use lib.Seq.{drop-cons, length-take-le, take-suc-set, take-all}
+use Rattle.text.specs.declared.Range.{Range}
+use Rattle.text.specs.Bytes.{put}
+use Rattle.text.specs.Lines.{Entry, head, row, linesText, taken, ill, out, within, readLine, all, textAt, rangeAt, readLines, firstOut}
+use Rattle.text.proofs.Bytes.{put-append}
+
+-- ---- reading
+
+module _ (ls : List Entry) (vs s : List ℕ) (at n : ℕ) (d : Entry) (inv : readLines ls [] s ≡ readLines (drop n ls) (take n vs) (drop at s))
+    (more : n < length ls) (known : n < length vs) where
+  counted : suc (length (take n vs)) ≡ n + 1
+  counted = omega (arith, length-take-le n vs (omega arith))
+
+  pub at-ill : ill ≡ readLine (head (getD ls n d .key)) (getD ls n d .range) (drop at s) → readLines ls [] s ≡ textAt (n + 1)
+  at-ill e = inv ∙ rw (drop-cons ls n d more, ← e, counted)
+
+  pub at-out : out ≡ readLine (head (getD ls n d .key)) (getD ls n d .range) (drop at s) → readLines ls [] s ≡ rangeAt (n + 1)
+  at-out e = inv ∙ rw (drop-cons ls n d more, ← e, counted)
+
+  pub at-value : (v next : ℕ) → taken v (drop next s) ≡ readLine (head (getD ls n d .key)) (getD ls n d .range) (drop at s)
+      → readLines ls [] s ≡ readLines (drop (n + 1) ls) (take (n + 1) (set vs n v)) (drop next s)
+  at-value v next e = inv ∙ rw (drop-cons ls n d more, ← e, add-one, take-suc-set vs n v known)
+
+pub at-end : (ls : List Entry) (vs s : List ℕ) (at n : ℕ) → readLines ls [] s ≡ readLines (drop n ls) (take n vs) (drop at s)
+    → length ls ≤ n → length vs ≤ n → readLines ls [] s ≡ all vs (drop at s)
+at-end ls vs s at n inv done long = inv ∙ rw (drop-of-length-le ls done, take-all n vs long)
+
+-- ---- writing
+
+module _ (ks : List (List ℕ)) (vs : List ℕ) (n : ℕ) (d : List ℕ) (more : n < length ks) (known : n < length vs) where
+  text-more : linesText (drop n ks) (drop n vs) ≡ row (head (getD ks n d)) (getD vs n 0) ++ linesText (drop (n + 1) ks) (drop (n + 1) vs)
+  text-more = rw (drop-cons ks n d more, drop-cons vs n 0 known, add-one)
+
+  pub length-more : length (linesText (drop n ks) (drop n vs)) ≡ length (row (head (getD ks n d)) (getD vs n 0)) + length (linesText (drop (n + 1) ks) (drop (n + 1) vs))
+  length-more = rw (text-more, length-append)
+
+  pub put-more : (o : List ℕ) (at : ℕ) → at + length (row (head (getD ks n d)) (getD vs n 0)) ≤ length o
+      → put o at (linesText (drop n ks) (drop n vs)) ≡ put (put o at (row (head (getD ks n d)) (getD vs n 0))) (at + length (row (head (getD ks n d)) (getD vs n 0))) (linesText (drop (n + 1) ks) (drop (n + 1) vs))
+  put-more o at room = ap (put o at) text-more ∙ put-append o at _ _ room
+
+pub text-end : (ks : List (List ℕ)) (vs : List ℕ) (n : ℕ) → length ks ≤ n → linesText (drop n ks) vs ≡ []
+text-end ks vs n done = rw (drop-of-length-le ks done)
+
+-- ---- ranges
+
+module _ (rs : List Range) (vs : List ℕ) (n : ℕ) (d : Range) (more : n < length rs) (known : n < length vs) where
+  pub out-here : within (getD rs n d) (getD vs n 0) ≡ false → firstOut (drop n rs) (n + 1) (drop n vs) ≡ n + 1
+  out-here e = rw (drop-cons rs n d more, drop-cons vs n 0 known, e)
+
+  pub out-later : within (getD rs n d) (getD vs n 0) ≡ true → firstOut (drop n rs) (n + 1) (drop n vs) ≡ firstOut (drop (n + 1) rs) (n + 1 + 1) (drop (n + 1) vs)
+  out-later e = rw (drop-cons rs n d more, drop-cons vs n 0 known, e, add-one, add-one)
+
+pub out-none : (rs : List Range) (vs : List ℕ) (n k : ℕ) → length rs ≤ n → firstOut (drop n rs) k vs ≡ 0
+out-none rs vs n k done = rw (drop-of-length-le rs done)

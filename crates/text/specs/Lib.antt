@@ -1,0 +1,5 @@
+pub mod Bytes
+pub mod Decimal
+pub mod Number
+pub mod Lines
+pub mod Seen
