@@ -7,7 +7,7 @@ use native.Mathlib.Omega.{arith}
 use lib.ListN.{getD}
 use Rattle.answer.specs.declared.Answer.{Answer}
 use Rattle.answer.specs.declared.Answer.the-variants.{Done, Text, Range, Relation, Board, Length, Room, Record, Life}
-use Rattle.answer.specs.Told.{Told, told, unless}
+use Rattle.answer.specs.Told.{Told, told, DONE, unless}
 
 unfoldable answerOf : Told → Answer
 answerOf t =
@@ -28,6 +28,9 @@ back Life = refl
 
 pub told-one : (a b : Answer) → told a ≡ told b → a ≡ b
 told-one a b e = sym (back a) ∙ ap answerOf e ∙ back b
+
+pub not-done : (t : Told) → 0 < t .number → t ≡ DONE → ⊥
+not-done t some e = let z : t .number ≡ 0 = ap (λ (x : Told). x .number) e in omega arith
 
 -- a fault decides, and none leaves the answer to what comes later
 module _ (refusal : ℕ → Told) (later : Told) where

@@ -1,3 +1,5 @@
 pub mod Lines
 mod Writing
 mod Deciding
+pub mod RoundTrip
+pub mod Standard
