@@ -1,8 +1,12 @@
 // Runs the settings' reader, writer and check on cases that document 01 names, and prints what each answers.
+// Standard input has three lines for each text that is read: the case's name, a part of the standard text, and what is put
+// in its place. In these a `/` stands for a newline and a `^` for a carriage return.
 use answer::Answer;
+use libc::STDIN_FILENO;
 use libc::STDOUT_FILENO;
 use settings::Settings;
-ghost use Prim.Native.Nat.{_≤_};
+ghost use mathlib.Core.Path.{_≡_};
+ghost use Prim.Native.Nat.{_+_, _≤_, min};
 ghost use lib.ListN.{length};
 
 fn say(text: &[u8]) {
@@ -20,7 +24,8 @@ fn say_carried(value: usize) {
 
 // The name of the case, the refusal's number or 0, and what it carries.
 fn say_answer(name: &[u8], a: Answer) {
-    say_number(name, a.number());
+    say(name);
+    say_number(b": ", a.number());
     match a {
         Answer::Done => {}
         Answer::Text(line) => say_carried(line),
@@ -33,6 +38,51 @@ fn say_answer(name: &[u8], a: Answer) {
         Answer::Life => {}
     }
     say(b"\n");
+}
+
+// Where the line that begins at a place ends, before its newline.
+fn line_end(text: &[u8], at: usize) -> usize
+    requires { ⌜ at ≤ length (now text) ⌝ }
+    ensures { λ r. ⌜ (at ≤ r) × (r ≤ length (now (text .entry))) ⌝ }
+{
+    let mut end = at;
+    while end < text.len() {
+        if text[end] == 10 {
+            return end;
+        }
+        end += 1;
+    }
+    end
+}
+
+// The place after a newline, or the text's end.
+fn after(text: &[u8], end: usize) -> usize
+    requires { ⌜ end ≤ length (now text) ⌝ }
+    ensures { λ r. ⌜ r ≡ min (end + 1) (length (now (text .entry))) ⌝ }
+{
+    if end < text.len() { end + 1 } else { end }
+}
+
+fn plain(b: u8) -> u8 {
+    if b == b'/' {
+        return 10;
+    }
+    if b == b'^' {
+        return 13;
+    }
+    b
+}
+
+// The part with newlines and carriage returns as they are, and how long it is.
+fn decoded(part: &[u8], out: &mut [u8]) -> usize
+    ensures { λ r. ⌜ r ≤ length (now (out .exit)) ⌝ }
+{
+    let mut i = 0;
+    while i < part.len() && i < out.len() {
+        out[i] = plain(part[i]);
+        i += 1;
+    }
+    i
 }
 
 // Where the part first stands in the text, or the text's end.
@@ -88,9 +138,13 @@ fn read_edited(name: &[u8], old: &[u8], new: &[u8], standard: &mut [u8], text: &
 }
 
 fn read_case(name: &[u8], old: &[u8], new: &[u8]) {
+    let mut from = [0u8; 64];
+    let mut to = [0u8; 64];
     let mut standard = [0u8; 1024];
     let mut text = [0u8; 1024];
-    read_edited(name, old, new, &mut standard, &mut text);
+    let n = decoded(old, &mut from);
+    let m = decoded(new, &mut to);
+    read_edited(name, &from[..n], &to[..m], &mut standard, &mut text);
 }
 
 // How many bytes are other than 7, which no settings text has.
@@ -144,93 +198,46 @@ fn check_case(name: &[u8], line: usize, value: u32) {
     say_answer(name, a);
 }
 
-fn read_lines() {
-    read_case(b"standard text: ", b"orbit=", b"orbit=");
-    read_case(b"r2_period 63: ", b"r2_period=25", b"r2_period=63");
-    read_case(b"r2_period 64: ", b"r2_period=25", b"r2_period=64");
-    read_case(b"r2_period 0: ", b"r2_period=25", b"r2_period=0");
-    read_case(b"leading zero: ", b"r2_period=25", b"r2_period=025");
-    read_case(b"zero zero: ", b"gap_low=3444", b"gap_low=00");
-    read_case(b"six digits: ", b"orbit=3564", b"orbit=100000");
-    read_case(
-        b"five digits above the range: ",
-        b"orbit=3564",
-        b"orbit=99999",
-    );
-    read_case(b"no digits: ", b"orbit=3564", b"orbit=");
-    read_case(b"a sign: ", b"orbit=3564", b"orbit=+3564");
-    read_case(b"a blank before the newline: ", b"r1_gap=2", b"r1_gap=2 ");
-    read_case(b"CR LF: ", b"gap_high=3563", b"gap_high=3563\r");
-    read_case(b"wrong key: ", b"slot3", b"slot4");
-    read_case(b"key in capitals: ", b"part31", b"PART31");
-    read_case(
-        b"RANGE on line 5 before TEXT on line 6: ",
-        b"r2_period=25\nr2_norm",
-        b"r2_period=64\nr2_nomr",
-    );
-    read_case(
-        b"TEXT on line 4 before RANGE on line 5: ",
-        b"r1_gap=2\nr2_period=25",
-        b"r1_gap=\nr2_period=64",
-    );
-}
-
-fn read_ends() {
-    read_case(b"last newline missing: ", b"part31=0\n", b"part31=0");
-    read_case(b"last line missing: ", b"part31=0\n", b"");
-    read_case(b"one byte after line 71: ", b"part31=0\n", b"part31=0\n\n");
-    read_case(
-        b"RANGE on line 71 before the tail: ",
-        b"part31=0\n",
-        b"part31=9\n\n",
-    );
-    read_case(b"first line missing: ", b"orbit=3564\n", b"");
-    read_case(b"cut in a key: ", b"part31=0\n", b"part3");
-}
-
-fn read_relations() {
-    read_case(b"gap_high at orbit: ", b"gap_high=3563", b"gap_high=3564");
-    read_case(
-        b"gap_low above gap_high: ",
-        b"gap_high=3563",
-        b"gap_high=3443",
-    );
-    read_case(b"at_cal at orbit: ", b"at_cal=3490", b"at_cal=3564");
-    read_case(b"at_hard is at_resync: ", b"at_hard=200", b"at_hard=100");
-    read_case(b"at_te before at_wte: ", b"at_te=3400", b"at_te=2999");
-    read_case(b"at_te after at_cal: ", b"at_te=3400", b"at_te=3491");
-    read_case(b"r2_low above r2_norm: ", b"r2_low=1", b"r2_low=3");
-    read_case(b"r3_low above r3_norm: ", b"r3_low=2", b"r3_low=4");
-    read_case(b"r4_low above r4_norm: ", b"r4_low=2", b"r4_low=5");
+fn read_cases(input: &[u8]) {
+    let mut at = 0;
+    while at < input.len() {
+        let a = line_end(input, at);
+        let old = after(input, a);
+        let b = line_end(input, old);
+        let new = after(input, b);
+        let c = line_end(input, new);
+        read_case(&input[at..a], &input[old..b], &input[new..c]);
+        at = after(input, c);
+    }
 }
 
 fn writes() {
-    write_case(b"write with room: ", 5, 25, 1024);
-    write_case(b"write with just room: ", 5, 25, 723);
-    write_case(b"write one byte short: ", 5, 25, 722);
-    write_case(b"write without a buffer: ", 5, 25, 0);
-    write_case(b"write r2_period 64: ", 5, 64, 1024);
-    write_case(b"write orbit 3563, RELATION before ROOM: ", 1, 3563, 0);
-    write_case(b"write orbit 4097, RANGE before RELATION: ", 1, 4097, 1024);
+    write_case(b"write with room", 5, 25, 1024);
+    write_case(b"write with just room", 5, 25, 723);
+    write_case(b"write one byte short", 5, 25, 722);
+    write_case(b"write without a buffer", 5, 25, 0);
+    write_case(b"write r2_period 64", 5, 64, 1024);
+    write_case(b"write orbit 3563, RELATION before ROOM", 1, 3563, 0);
+    write_case(b"write orbit 4097, RANGE before RELATION", 1, 4097, 1024);
 }
 
 fn checks() {
-    check_case(b"check r2_period 63: ", 5, 63);
-    check_case(b"check r2_period 64: ", 5, 64);
-    check_case(b"check part31 8: ", 71, 8);
-    check_case(b"check part31 9: ", 71, 9);
-    check_case(b"check orbit 63, RANGE before RELATION: ", 1, 63);
-    check_case(b"check orbit 64: ", 1, 64);
-    check_case(b"check at_stop 3564: ", 36, 3564);
-    check_case(b"check at_stop 500: ", 36, 500);
-    check_case(b"check at_wte 3400: ", 38, 3400);
-    check_case(b"check r4_norm 1: ", 12, 1);
+    check_case(b"check r2_period 63", 5, 63);
+    check_case(b"check r2_period 64", 5, 64);
+    check_case(b"check part31 8", 71, 8);
+    check_case(b"check part31 9", 71, 9);
+    check_case(b"check orbit 63, RANGE before RELATION", 1, 63);
+    check_case(b"check orbit 64", 1, 64);
+    check_case(b"check at_stop 3564", 36, 3564);
+    check_case(b"check at_stop 500", 36, 500);
+    check_case(b"check at_wte 3400", 38, 3400);
+    check_case(b"check r4_norm 1", 12, 1);
 }
 
 fn main() {
-    read_lines();
-    read_ends();
-    read_relations();
+    let mut input = io::buffer();
+    let n = io::read_full(STDIN_FILENO, &mut input);
+    read_cases(&input[..n]);
     writes();
     checks();
 }
