@@ -18,7 +18,7 @@ use Rattle.text.specs.Number.{value, more, number, isDigit}
 pub digit : (b : ℕ) → 48 ≤ b → b ≤ 57 → isDigit b ≡ true
 digit b lo hi = rw (le-leb 48 b lo, le-leb b 57 hi)
 
-digit-is : (b : ℕ) → isDigit b ≡ true → (48 ≤ b) × (b ≤ 57)
+pub digit-is : (b : ℕ) → isDigit b ≡ true → (48 ≤ b) × (b ≤ 57)
 digit-is b e = let h = both (leb 48 b) (leb b 57) e in (leb-true 48 b (h .0), leb-true b 57 (h .1))
 
 pub goes-on : (k v b : ℕ) (t : List ℕ) → 0 < k → 48 ≤ b → b ≤ 57 → more k v (b ∷ t) ≡ more (k - 1) (v * 10 + (b - 48)) t

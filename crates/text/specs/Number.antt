@@ -13,6 +13,10 @@ pub data Parsed : Type 0 where
 abbrev pub isDigit : ℕ → Bool
 isDigit b = leb 48 b && leb b 57
 
+-- its value; 10 for any other byte
+abbrev pub digitOf : ℕ → ℕ
+digitOf b = if (isDigit b) (b - 48) 10
+
 -- v was read; at most k digits more, then the newline
 abbrev pub more : ℕ → ℕ → List ℕ → Parsed
 more k v [] = none

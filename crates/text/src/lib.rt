@@ -4,6 +4,7 @@ ghost use Prim.Native.Nat.{_+_, _<_, _≤_};
 ghost use lib.ListN.{length, drop};
 ghost use Rattle.text.specs.Bytes.{put, starts};
 ghost use Rattle.text.specs.Decimal.{decimal};
+ghost use Rattle.text.specs.Number.{digitOf};
 ghost use Rattle.text.specs.Lines.{row, within};
 ghost use Rattle.text.specs.Seen.{NumberIs, LineIs};
 
@@ -56,6 +57,19 @@ pub fn starts_with(text: &[u8], at: usize, key: &[u8]) -> bool
     true
 }
 
+// The value of a digit, or 10 for any other byte.
+fn digit(b: u8) -> u32
+    ensures { λ r. ⌜ r ≡ digitOf b ⌝ }
+{
+    if b < 48 {
+        return 10;
+    }
+    if 57 < b {
+        return 10;
+    }
+    (b - 48) as u32
+}
+
 // The number at a place, of at most `digits` digits, ended by a newline.
 pub fn read_number(text: &[u8], at: usize, digits: usize) -> Number
     requires { ⌜ (at ≤ length (now text)) × (0 < digits) × (digits ≤ 8) ⌝ }
@@ -65,17 +79,14 @@ pub fn read_number(text: &[u8], at: usize, digits: usize) -> Number
         return Number::Ill;
     }
     let first = text[at];
-    if first < 48 {
-        return Number::Ill;
-    }
-    if 57 < first {
+    let mut v = digit(first);
+    if 9 < v {
         return Number::Ill;
     }
     let mut left = digits - 1;
     if first == 48 {
         left = 0;
     }
-    let mut v = (first - 48) as u32;
     let mut i = at + 1;
     while i < text.len() {
         let b = text[i];
@@ -85,13 +96,11 @@ pub fn read_number(text: &[u8], at: usize, digits: usize) -> Number
         if left == 0 {
             return Number::Ill;
         }
-        if b < 48 {
+        let d = digit(b);
+        if 9 < d {
             return Number::Ill;
         }
-        if 57 < b {
-            return Number::Ill;
-        }
-        v = v * 10 + (b - 48) as u32;
+        v = v * 10 + d;
         left -= 1;
         i += 1;
     }

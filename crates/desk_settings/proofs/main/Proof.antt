@@ -1,7 +1,6 @@
 -- `desk_settings::main` is safe and ends: the standard text has 723 bytes, so it fits the buffer.
 -- Its length is that of the settings that `standard` ensures.
 use mathlib.Core.Path.{_≡_, sym, ap, _∙_}
-use Prim.Native.Nat.{ℕ}
 use native.Mathlib.Omega.{arith}
 use borrow.Author.Needs.{needs}
 use lib.ListN.{length}

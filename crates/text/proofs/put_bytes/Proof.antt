@@ -1,5 +1,5 @@
--- `text::put_bytes` meets its contract: what is left to lay makes of the buffer what the whole makes of the first one.
--- Assumes nothing.
+-- `text::put_bytes` meets its contract: the bytes that are left, laid from here, make what all make from the first place.
+-- A turn lays one byte.
 use mathlib.Core.Path.{_≡_, refl, sym, _∙_}
 use mathlib.Core.List.{List}
 use Prim.Native.Nat.{ℕ, _+_, _-_, _≤_, _<_}

@@ -1,3 +1,5 @@
+-- `text::put_line` meets its contract: the key, the number and the newline are laid one after the other.
+-- One law says that this lays the line.
 use mathlib.Core.Path.{_∙_}
 use Prim.Native.Nat.{_+_, _≤_}
 use native.Mathlib.Omega.{arith}

@@ -1,5 +1,5 @@
 -- `text::put_number` meets its contract: the digits that are left, laid from the same place, make what the whole number makes.
--- Assumes nothing.
+-- A turn lays the last digit of what is left.
 use mathlib.Core.Path.{_≡_, refl, sym, _∙_}
 use mathlib.Core.List.{List, []}
 use Prim.Native.Nat.{ℕ, _+_, _-_, _/_, _%_, _≤_, _<_}

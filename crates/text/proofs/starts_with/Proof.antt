@@ -1,5 +1,5 @@
--- `text::starts_with` meets its contract: what is left to compare decides as the whole does.
--- Assumes nothing.
+-- `text::starts_with` meets its contract: the bytes that are left to compare decide as the whole key does.
+-- Each way out and each turn opens one byte of the key and of the text.
 use mathlib.Core.Path.{_≡_, sym, _∙_}
 use mathlib.Core.Bool.{false}
 use mathlib.Core.List.{List}

@@ -1,3 +1,5 @@
+-- `text::width` meets its contract: the digits counted and those of what is left make those of the number.
+-- A turn takes one digit over; a number below ten has one.
 use mathlib.Core.Path.{_≡_}
 use Prim.Native.Nat.{_+_}
 use lib.ListN.{length}
