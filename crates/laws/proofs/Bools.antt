@@ -11,6 +11,10 @@ both false b e = absurd (false≢true e)
 pub and-yes : (a b : Bool) → a ≡ true → b ≡ true → a && b ≡ true
 and-yes a b p q = rw (p, q)
 
+pub and-true : (a : Bool) → a && true ≡ a
+and-true true = refl
+and-true false = refl
+
 -- which way an `if` went, from a value that its other branch is not
 pub if-yes : {A : Type 0} (t : Bool) (x y z : A) → if t x y ≡ z → (y ≡ z → ⊥) → (t ≡ true) × (x ≡ z)
 if-yes true x y z e n = (refl, e)

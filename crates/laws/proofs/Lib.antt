@@ -3,3 +3,4 @@ pub mod Bools
 pub mod All
 pub mod First
 pub mod Over
+pub mod Highest

@@ -8,7 +8,7 @@ use native.Mathlib.Numerals.{add-one}
 use native.Mathlib.Omega.{arith}
 use lib.ListN.{length, getD, take, drop, set, length-take, List·getD-eq-default, drop-of-length-le}
 use lib.Seq.{take-all}
-use Rattle.laws.specs.Base.{mapI}
+use Rattle.laws.specs.Base.{mapI, tabulate}
 
 module _ {A : Type 0} where
   -- a list in which the first n are new already
@@ -70,3 +70,27 @@ module _ {A : Type 0} (f : ℕ → A → A) (l : List A) where
   pub over-place : (n : ℕ) (d : A) (cur : List A) (r : A) → n < length l → cur ≡ over n (mapI f 0 l) l → r ≡ f n (getD cur n d)
       → set cur n r ≡ over (n + 1) (mapI f 0 l) l
   over-place n d cur r p e h = over-turn f l n d cur l r p p e (h ∙ ap (f n) (over-read n d cur p e))
+
+-- a loop that fills a list with f of each place
+module _ {A : Type 0} (f : ℕ → A) where
+  pub length-tabulate : (i n : ℕ) → length (tabulate f i n) ≡ n
+  unfolding tabulate
+  length-tabulate i zero = refl
+  length-tabulate i (suc n) = ap suc (length-tabulate (suc i) n)
+
+  pub getD-tabulate : (i m n : ℕ) (d : A) → n < m → getD (tabulate f i m) n d ≡ f (i + n)
+  unfolding tabulate
+  getD-tabulate i zero n d h = absurd (not-suc-le-zero h)
+  getD-tabulate i (suc m) zero d h = rw add-zero
+  getD-tabulate i (suc m) (suc n) d h = rw (add-suc, ← suc-add) (getD-tabulate (suc i) m n d (le-of-suc-le-suc h))
+
+  pub fill-turn : (m n : ℕ) (cur old : List A) (r : A) → n < m → n < length old → cur ≡ over n (tabulate f 0 m) old → r ≡ f n
+      → set cur n r ≡ over (n + 1) (tabulate f 0 m) old
+  fill-turn m n cur old r p q e h =
+      let g : r ≡ getD (tabulate f 0 m) n r = h ∙ sym (getD-tabulate 0 m n r p ∙ rw zero-add) in
+      ap (λ (x : A). set cur n x) g ∙ rw e (over-set n (tabulate f 0 m) old r (rw length-tabulate p) q)
+
+  pub fill-done : (m : ℕ) (cur old : List A) → length old ≡ m → cur ≡ over m (tabulate f 0 m) old → cur ≡ tabulate f 0 m
+  fill-done m cur old k e =
+      let z : length old ≤ m = omega arith in
+      e ∙ over-all m (tabulate f 0 m) old (length-tabulate 0 m) ∙ rw (drop-of-length-le old z, append-nil)

@@ -1,6 +1,6 @@
 -- The words that definitions are made of: a choice by a test, a map that knows its places, "all of", "the first that fails".
 use mathlib.Core.Bool.{Bool, true, false, _&&_}
-use Prim.Native.Nat.{ℕ, zero, suc}
+use Prim.Native.Nat.{ℕ, zero, suc, max}
 use mathlib.Core.List.{List, [], _∷_}
 
 abbrev pub if : {A : Type 0} → Bool → A → A → A
@@ -16,6 +16,16 @@ allB p (a ∷ l) = p a && allB p l
 unfoldable pub mapI : {A B : Type 0} → (ℕ → A → B) → ℕ → List A → List B
 mapI f i [] = []
 mapI f i (a ∷ l) = f i a ∷ mapI f (suc i) l
+
+-- f of the n places from i on
+unfoldable pub tabulate : {A : Type 0} → (ℕ → A) → ℕ → ℕ → List A
+tabulate f i zero = []
+tabulate f i (suc n) = f i ∷ tabulate f (suc i) n
+
+-- the highest of f at the first n places, 0 where there is none
+unfoldable pub highest : (ℕ → ℕ) → ℕ → ℕ
+highest f zero = 0
+highest f (suc n) = max (highest f n) (f n)
 
 -- the first of the n places from k on at which p fails, or k + n where it fails at none
 unfoldable pub firstNot : (ℕ → Bool) → ℕ → ℕ → ℕ

@@ -1,0 +1,4 @@
+pub mod Class
+pub mod Codes
+pub mod Merge
+pub mod Merger

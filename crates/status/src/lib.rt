@@ -1,0 +1,201 @@
+// The status of a controller: a code's class, and the merge of all its members (document 01, step 2 of "One crossing").
+use settings::Ignores;
+use settings::Settings;
+ghost use mathlib.Core.Path.{_≡_};
+ghost use Prim.Native.Nat.{_+_, _<_, max};
+ghost use Rattle.laws.specs.Base.{tabulate};
+ghost use Rattle.status.specs.Class.{emulator, classOf, counted};
+ghost use Rattle.status.specs.Codes.{Coded};
+ghost use Rattle.status.specs.Merger.{ownerOf, half, rankAt, mergerOf, votedOf, voted};
+
+// The classes, numbered by rank.
+pub const NONE: u8 = 0;
+
+pub const READY: u8 = 1;
+
+pub const WARNING: u8 = 2;
+
+pub const BUSY: u8 = 3;
+
+pub const OUT_OF_SYNC: u8 = 4;
+
+pub const ERROR: u8 = 5;
+
+pub const BAD: u8 = 6;
+
+pub const DISCONNECTED: u8 = 7;
+
+fn is_emulator(input: usize) -> bool
+    ensures { λ r. ⌜ r ≡ emulator input ⌝ }
+{
+    24 <= input && input <= 31
+}
+
+fn emulated(input: usize) -> u8
+    ensures { λ r. ⌜ r ≡ classOf input 11 ⌝ }
+{
+    if is_emulator(input) { BUSY } else { BAD }
+}
+
+// The class of a code, by the kind of its input: 0 to 31 partitions, 32 to 39 aTTS, 40 GTFE.
+pub fn class(input: usize, code: u8) -> u8
+    ensures { λ r. ⌜ r ≡ classOf input code ⌝ }
+{
+    if code == 0 {
+        return DISCONNECTED;
+    }
+    if code == 15 {
+        return DISCONNECTED;
+    }
+    if code == 1 {
+        return WARNING;
+    }
+    if code == 2 {
+        return OUT_OF_SYNC;
+    }
+    if code == 4 {
+        return BUSY;
+    }
+    if code == 8 {
+        return READY;
+    }
+    if code == 12 {
+        return ERROR;
+    }
+    if code == 11 {
+        return emulated(input);
+    }
+    BAD
+}
+
+// What a member of that class counts: nothing where the settings ignore it.
+fn counts(ignores: Ignores, class: u8) -> u8
+    ensures { λ r. ⌜ r ≡ counted ignores class ⌝ }
+{
+    if ignores.disc && class == DISCONNECTED {
+        return NONE;
+    }
+    if ignores.bad && class == BAD {
+        return NONE;
+    }
+    class
+}
+
+fn larger(a: u8, b: u8) -> u8
+    ensures { λ r. ⌜ r ≡ max a b ⌝ }
+{
+    if a < b { b } else { a }
+}
+
+// The eight with one more vote.
+fn with_vote(best: [u8; 8], owner: u32, v: u8) -> [u8; 8]
+    ensures { λ r. ⌜ r ≡ votedOf best owner v ⌝ }
+{
+    if owner < 8 {
+        let k = owner as usize;
+        let mut next = best;
+        next[k] = larger(next[k], v);
+        next
+    } else {
+        best
+    }
+}
+
+// What of the settings the merge needs, made once for many crossings.
+pub struct Merger {
+    pub owners: [u32; 40],
+    pub ranks: [u8; 32],
+}
+
+fn owner(s: Settings, input: usize) -> u32
+    requires { ⌜ input < 40 ⌝ }
+    ensures { λ r. ⌜ r ≡ ownerOf s input ⌝ }
+{
+    if input < 32 {
+        s.part(input)
+    } else {
+        (input - 32) as u32
+    }
+}
+
+fn owners(s: Settings) -> [u32; 40]
+    ensures { λ r. ⌜ r ≡ tabulate (ownerOf s) 0 40 ⌝ }
+{
+    let mut all = [0u32; 40];
+    let mut n = 0;
+    while n < 40 {
+        all[n] = owner(s, n);
+        n += 1;
+    }
+    all
+}
+
+fn rank(ignores: Ignores, place: usize) -> u8
+    requires { ⌜ place < 32 ⌝ }
+    ensures { λ r. ⌜ r ≡ rankAt ignores place ⌝ }
+{
+    let code = (place % 16) as u8;
+    counts(ignores, class(24 * (place / 16), code))
+}
+
+fn ranks(ignores: Ignores) -> [u8; 32]
+    ensures { λ r. ⌜ r ≡ tabulate (rankAt ignores) 0 32 ⌝ }
+{
+    let mut all = [0u8; 32];
+    let mut n = 0;
+    while n < 32 {
+        all[n] = rank(ignores, n);
+        n += 1;
+    }
+    all
+}
+
+// Where the half of the table begins that is for the two inputs of a byte.
+fn half_of(byte: usize) -> usize
+    requires { ⌜ byte < 20 ⌝ }
+    ensures { λ r. ⌜ (r ≡ half (byte + byte)) × (r ≡ half (byte + byte + 1)) ⌝ }
+{
+    if byte < 12 {
+        return 0;
+    }
+    if byte < 16 {
+        return 16;
+    }
+    0
+}
+
+impl Merger {
+    pub fn of(s: Settings) -> Merger
+        ensures { λ r. ⌜ r ≡ mergerOf s ⌝ }
+    {
+        let owners = owners(s);
+        let ranks = ranks(s.ignores());
+        Merger {
+            owners: owners,
+            ranks: ranks,
+        }
+    }
+
+    // The classes of all eight controllers, in one pass over the codes of a record, its bytes 3 to 23.
+    pub fn merge(self, codes: &[u8]) -> [u8; 8]
+        requires { ⌜ Coded (now codes) ⌝ }
+        ensures { λ r. ⌜ r ≡ voted self (now (codes .entry)) 40 ⌝ }
+    {
+        let owners = self.owners;
+        let ranks = self.ranks;
+        let gtfe = codes[0] as usize;
+        let first = ranks[gtfe];
+        let mut best = [first; 8];
+        let mut j = 0;
+        while j < 20 {
+            let b = codes[1 + j];
+            let low = half_of(j) + (b % 16) as usize;
+            let high = half_of(j) + (b / 16) as usize;
+            let even = with_vote(best, owners[j + j], ranks[low]);
+            let both = with_vote(even, owners[j + j + 1], ranks[high]);
+            best = both;
+            j += 1;
+        }
+        best
+    }
+}

@@ -1,0 +1,6 @@
+mod Bits
+pub mod Ring
+mod Words
+pub mod Windows
+mod Refusals
+pub mod Instances

@@ -1,0 +1,22 @@
+-- `throttle::Marks::at` meets its contract: the crossing's bit of its word.
+-- What the call ensures.
+use borrow.Author.Needs.{needs}
+use Rattle.throttle.specs.Marks.{markAt}
+use Rattle.throttle.proofs.Marks.at.Statement.{statement}
+use Rattle.throttle.proofs.Marks.at.Tie as tie
+
+mul-bit : tie.Need-mul-bit
+mul-bit c = search needs
+
+element-copy-out-bit : tie.Need-element-copy-out-bit
+element-copy-out-bit c = search needs
+
+bit-requires : tie.Need-bit-requires
+bit-requires c κs = search needs
+
+returns : tie.Need-returns
+unfolding markAt
+returns c = c .bit .ensures
+
+pub at-spec : {M : Type 1} → statement M
+at-spec = tie.close (tie.spec mul-bit element-copy-out-bit bit-requires returns)

@@ -1,0 +1,34 @@
+-- What each way through the four rules says of `free`: the first that refuses decides, and the last one's answer where none before did.
+-- By opening the list of rules as far as it was looked at.
+use mathlib.Core.Path.{_≡_, sym}
+use mathlib.Core.Bool.{Bool, true, false, _&&_}
+use mathlib.Core.List.{List}
+use Prim.Native.Nat.{ℕ}
+use Rattle.laws.specs.Base.{allB}
+use Rattle.laws.proofs.Bools.{and-true}
+use Rattle.settings.specs.declared.names.Rules.{Rules}
+use Rattle.throttle.specs.Rules.{spacingRule, allows, free}
+
+module _ (r : Rules) (blocks : Bool) (ws : List ℕ) (n : ℕ) (warn : Bool) where
+  pub blocked : (warn && blocks) ≡ true → false ≡ free r blocks ws n warn
+  unfolding free
+  blocked e = rw e
+
+  module _ (clear : (warn && blocks) ≡ false) where
+    pub first-refuses : allows ws n warn (spacingRule r) ≡ false → false ≡ free r blocks ws n warn
+    unfolding free allB
+    first-refuses e = rw (clear, e)
+
+    module _ (first : allows ws n warn (spacingRule r) ≡ true) where
+      pub second-refuses : allows ws n warn (r .second) ≡ false → false ≡ free r blocks ws n warn
+      unfolding free allB
+      second-refuses e = rw (clear, first, e)
+
+      module _ (second : allows ws n warn (r .second) ≡ true) where
+        pub third-refuses : allows ws n warn (r .third) ≡ false → false ≡ free r blocks ws n warn
+        unfolding free allB
+        third-refuses e = rw (clear, first, second, e)
+
+        pub fourth-decides : allows ws n warn (r .third) ≡ true → allows ws n warn (r .fourth) ≡ free r blocks ws n warn
+        unfolding free allB
+        fourth-decides e = rw (clear, first, second, e) (sym (and-true (allows ws n warn (r .fourth))))

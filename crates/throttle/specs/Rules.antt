@@ -1,0 +1,35 @@
+-- Document 01, "Throttle": the four rules, each a period of crossings and the triggers that it may hold, this crossing's among them.
+use Prim.Native.Nat.{ℕ, _+_, _-_, _^_, _<_}
+use mathlib.Core.Bool.{Bool, not, _&&_}
+use mathlib.Core.List.{List, [], _∷_}
+use lib.Dec.{leb}
+use Rattle.laws.specs.Base.{if, allB}
+use Rattle.settings.specs.declared.names.Rule.{Rule}
+use Rattle.settings.specs.declared.names.Rules.{Rules}
+use Rattle.throttle.specs.Marks.{among}
+
+-- rule 1 reads as period r1_gap + 1 with both limits 1
+abbrev pub spacingRule : Rules → Rule
+spacingRule r = record { period = r .spacing + 1; norm = 1; low = 1 }
+
+abbrev pub rulesList : Rules → List Rule
+rulesList r = spacingRule r ∷ r .second ∷ r .third ∷ r .fourth ∷ []
+
+-- READY uses normal limits, WARN low ones
+abbrev pub limitOf : Rule → Bool → ℕ
+limitOf r warn = if warn (r .low) (r .norm)
+
+-- after n crossings: the triggers of the period - 1 crossings before, plus this one, do not exceed the limit
+unfoldable pub allows : List ℕ → ℕ → Bool → Rule → Bool
+allows ws n warn r = leb (among ws n (r .period - 1) + 1) (limitOf r warn)
+
+-- a trigger is free: not refused in WARN by warn_blocks, and not by any of the four rules
+unfoldable pub free : Rules → Bool → List ℕ → ℕ → Bool → Bool
+free r blocks ws n warn = not (warn && blocks) && allB (allows ws n warn) (rulesList r)
+
+-- what of checked settings the arithmetic needs
+pub record Sensible (r : Rules) : Type 0 where
+  pub spacing : r .spacing + 1 < 2 ^ 32
+  pub second : 0 < r .second .period
+  pub third : 0 < r .third .period
+  pub fourth : 0 < r .fourth .period
