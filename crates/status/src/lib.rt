@@ -87,17 +87,13 @@ fn larger(a: u8, b: u8) -> u8
     if a < b { b } else { a }
 }
 
-// The eight with one more vote.
-fn with_vote(best: [u8; 8], owner: u32, v: u8) -> [u8; 8]
-    ensures { λ r. ⌜ r ≡ votedOf best owner v ⌝ }
+// One more vote, in place: copies of the eight would cost more than all else in the pass.
+fn vote_in(best: &mut [u8; 8], owner: u32, v: u8)
+    ensures { λ _. ⌜ now (best .exit) ≡ votedOf (now (best .entry)) owner v ⌝ }
 {
     if owner < 8 {
         let k = owner as usize;
-        let mut next = best;
-        next[k] = larger(next[k], v);
-        next
-    } else {
-        best
+        best[k] = larger(best[k], v);
     }
 }
 
@@ -191,9 +187,8 @@ impl Merger {
             let b = codes[1 + j];
             let low = half_of(j) + (b % 16) as usize;
             let high = half_of(j) + (b / 16) as usize;
-            let even = with_vote(best, owners[j + j], ranks[low]);
-            let both = with_vote(even, owners[j + j + 1], ranks[high]);
-            best = both;
+            vote_in(&mut best, owners[j + j], ranks[low]);
+            vote_in(&mut best, owners[j + j + 1], ranks[high]);
             j += 1;
         }
         best

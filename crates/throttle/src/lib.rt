@@ -1,4 +1,5 @@
 // The throttle: the marks of the last 2,047 crossings, and the four rules over them (document 01, "Throttle").
+// The marks are a ring of bits: crossing c has bit c % 64 of word c / 64 % 32. They are lent, since a copy costs more than a rule.
 use settings::Rule;
 use settings::Rules;
 ghost use mathlib.Core.Path.{_≡_};
@@ -7,11 +8,6 @@ ghost use Prim.Native.Nat.{_+_, _<_, _≤_, _^_, min};
 ghost use lib.Count.{onesIn};
 ghost use Rattle.throttle.specs.Marks.{bitAt, putBit, markAt, marked, passed, markBack, among};
 ghost use Rattle.throttle.specs.Rules.{limitOf, allows, Sensible, free};
-
-// A ring of bits: crossing c has bit c % 64 of word c / 64 % 32.
-pub struct Marks {
-    pub words: [u64; 32],
-}
 
 fn bit(w: u64, k: u64) -> u64
     requires { ⌜ k < 64 ⌝ }
@@ -47,93 +43,72 @@ fn least(a: u64, b: u64) -> u64
     if a < b { a } else { b }
 }
 
-impl Marks {
-    // The mark of crossing c: 1 where it carried a trigger.
-    fn at(self, c: u64) -> u64
-        ensures { λ r. ⌜ r ≡ markAt (self .words) c ⌝ }
-    {
-        let i = (c / 64 % 32) as usize;
-        bit(self.words[i], c % 64)
-    }
+// The mark of crossing c: 1 where it carried a trigger.
+fn mark(marks: &[u64; 32], c: u64) -> u64
+    ensures { λ r. ⌜ r ≡ markAt (now (marks .entry)) c ⌝ }
+{
+    let i = (c / 64 % 32) as usize;
+    bit(marks[i], c % 64)
+}
 
-    fn with(mut self, c: u64, x: u64) -> Marks
-        requires { ⌜ x < 2 ⌝ }
-        ensures { λ r. ⌜ r .words ≡ marked (self .words) c x ⌝ }
-    {
-        let i = (c / 64 % 32) as usize;
-        let w = put_bit(self.words[i], c % 64, x);
-        self.words[i] = w;
-        self
-    }
+fn put_mark(marks: &mut [u64; 32], c: u64, x: u64)
+    requires { ⌜ x < 2 ⌝ }
+    ensures { λ _. ⌜ now (marks .exit) ≡ marked (now (marks .entry)) c x ⌝ }
+{
+    let i = (c / 64 % 32) as usize;
+    let w = put_bit(marks[i], c % 64, x);
+    marks[i] = w;
+}
 
-    // The marks after crossing c, which carried a trigger where x is 1. The next place, the oldest, is cleared.
-    pub fn passed(self, c: u64, x: u64) -> Marks
-        requires { ⌜ (x < 2) × (c + 1 < 2 ^ 64) ⌝ }
-        ensures { λ r. ⌜ r .words ≡ passed (self .words) c x ⌝ }
-    {
-        self.with(c, x).with(c + 1, 0)
-    }
+// Marks crossing c, which carried a trigger where x is 1, and clears the next place, the oldest.
+pub fn pass(marks: &mut [u64; 32], c: u64, x: u64)
+    requires { ⌜ (x < 2) × (c + 1 < 2 ^ 64) ⌝ }
+    ensures { λ _. ⌜ now (marks .exit) ≡ passed (now (marks .entry)) c x ⌝ }
+{
+    put_mark(marks, c, x);
+    put_mark(marks, c + 1, 0);
+}
 
-    // After n crossings, the mark of the one that has d others after it.
-    pub fn back(self, n: u64, d: u64) -> u64
-        ensures { λ r. ⌜ r ≡ markBack (self .words) n d ⌝ }
-    {
-        if d < n { self.at(n - 1 - d) } else { 0 }
-    }
+// After n crossings, the mark of the one that has d others after it.
+pub fn back(marks: &[u64; 32], n: u64, d: u64) -> u64
+    ensures { λ r. ⌜ r ≡ markBack (now (marks .entry)) n d ⌝ }
+{
+    if d < n { mark(marks, n - 1 - d) } else { 0 }
+}
 
-    // After n crossings, how many of the last k are marked. It goes by words, from the newest.
-    pub fn count(self, n: u64, k: u64) -> u64
-        ensures { λ r. ⌜ r ≡ among (self .words) n k ⌝ }
-    {
-        let mut left = least(k, n);
-        let mut end = n;
-        let mut sum: u64 = 0;
-        while 0 < left {
-            let last = end - 1;
-            let i = (last / 64 % 32) as usize;
-            let used = last % 64 + 1;
-            let taken = least(left, used);
-            let w = self.words[i];
-            sum += low_ones(w >> (used - taken), taken);
-            end -= taken;
-            left -= taken;
-        }
-        sum
+// After n crossings, how many of the last k are marked. It goes by words, from the newest.
+pub fn count(marks: &[u64; 32], n: u64, k: u64) -> u64
+    ensures { λ r. ⌜ r ≡ among (now (marks .entry)) n k ⌝ }
+{
+    let mut left = least(k, n);
+    let mut end = n;
+    let mut sum: u64 = 0;
+    while 0 < left {
+        let last = end - 1;
+        let i = (last / 64 % 32) as usize;
+        let used = last % 64 + 1;
+        let taken = least(left, used);
+        let w = marks[i];
+        sum += low_ones(w >> (used - taken), taken);
+        end -= taken;
+        left -= taken;
     }
+    sum
+}
 
-    // Whether one more trigger now is within a rule, after n crossings.
-    fn within(self, n: u64, warn: bool, rule: Rule) -> bool
-        requires { ⌜ 0 < rule .period ⌝ }
-        ensures { λ r. ⌜ r ≡ allows (self .words) n warn rule ⌝ }
-    {
-        let most = limit(rule, warn);
-        self.count(n, (rule.period - 1) as u64) + 1 <= most as u64
-    }
+fn limit(rule: Rule, warn: bool) -> u32
+    ensures { λ r. ⌜ r ≡ limitOf rule warn ⌝ }
+{
+    if warn { rule.low } else { rule.norm }
+}
 
-    // Whether a trigger is free after n crossings, by the low limits under warning. The first rule that refuses decides.
-    pub fn free(self, rules: Rules, blocks: bool, n: u64, warn: bool) -> bool
-        requires { ⌜ Sensible rules ⌝ }
-        ensures { λ r. ⌜ r ≡ free rules blocks (self .words) n warn ⌝ }
-    {
-        if both(warn, blocks) {
-            return false;
-        }
-        let spacing = Rule {
-            period: rules.spacing + 1,
-            norm: 1,
-            low: 1,
-        };
-        if !self.within(n, warn, spacing) {
-            return false;
-        }
-        if !self.within(n, warn, rules.second) {
-            return false;
-        }
-        if !self.within(n, warn, rules.third) {
-            return false;
-        }
-        self.within(n, warn, rules.fourth)
-    }
+// Whether one more trigger now is within a rule, after n crossings.
+fn within(marks: &[u64; 32], n: u64, warn: bool, rule: Rule) -> bool
+    requires { ⌜ 0 < rule .period ⌝ }
+    ensures { λ r. ⌜ r ≡ allows (now (marks .entry)) n warn rule ⌝ }
+{
+    let most = limit(rule, warn);
+    count(marks, n, (rule.period - 1) as u64) + 1 <= most as u64
 }
 
 fn both(a: bool, b: bool) -> bool
@@ -142,8 +117,27 @@ fn both(a: bool, b: bool) -> bool
     a && b
 }
 
-fn limit(rule: Rule, warn: bool) -> u32
-    ensures { λ r. ⌜ r ≡ limitOf rule warn ⌝ }
+// Whether a trigger is free after n crossings, by the low limits under warning. The first rule that refuses decides.
+pub fn free(marks: &[u64; 32], rules: Rules, blocks: bool, n: u64, warn: bool) -> bool
+    requires { ⌜ Sensible rules ⌝ }
+    ensures { λ r. ⌜ r ≡ free rules blocks (now (marks .entry)) n warn ⌝ }
 {
-    if warn { rule.low } else { rule.norm }
+    if both(warn, blocks) {
+        return false;
+    }
+    let spacing = Rule {
+        period: rules.spacing + 1,
+        norm: 1,
+        low: 1,
+    };
+    if !within(marks, n, warn, spacing) {
+        return false;
+    }
+    if !within(marks, n, warn, rules.second) {
+        return false;
+    }
+    if !within(marks, n, warn, rules.third) {
+        return false;
+    }
+    within(marks, n, warn, rules.fourth)
 }

@@ -43,51 +43,49 @@ cast-low : tie.Need-cast-low Inv-loop μ-loop
 cast-low c = search needs
 
 add-low : tie.Need-add-low Inv-loop μ-loop
-add-low c = let j = c .before .before .before .loop .j in omega (arith, half-most (j + j) _ (c .half-of .ensures .0))
+add-low c = let j = c .before .before .before .loop .j in omega (arith, half-most (j + j) _ (c .half-of .ensures .0), c .before .shared-slice-known3 .given (1 + j))
 
 half-of-requires-2 : tie.Need-half-of-requires-2 Inv-loop μ-loop
 half-of-requires-2 c κs = search needs
 
 cast-high : tie.Need-cast-high Inv-loop μ-loop
-cast-high c = omega (arith, c .before .before .shared-slice-known3 .given (1 + c .before .before .before .before .loop .j))
+cast-high c = let j = c .before .before .before .before .loop .j in omega (arith, half-most (j + j) _ (c .before .half-of .ensures .0), half-most (j + j) _ (c .half-of2 .ensures .0), c .before .before .shared-slice-known3 .given (1 + j))
 
 add-high : tie.Need-add-high Inv-loop μ-loop
-add-high c = let j = c .before .before .before .before .loop .j in omega (arith, half-most (j + j) _ (c .half-of2 .ensures .0), c .before .before .shared-slice-known3 .given (1 + j))
+add-high c = let j = c .before .before .before .before .loop .j in omega (arith, half-most (j + j) _ (c .before .half-of .ensures .0), half-most (j + j) _ (c .half-of2 .ensures .0), c .before .before .shared-slice-known3 .given (1 + j))
 
-add-with-vote : tie.Need-add-with-vote Inv-loop μ-loop
-add-with-vote c = search needs
+add-vote-in : tie.Need-add-vote-in Inv-loop μ-loop
+add-vote-in c = search needs
 
-mul-with-vote : tie.Need-mul-with-vote Inv-loop μ-loop
-mul-with-vote c = search needs
+mul-vote-in : tie.Need-mul-vote-in Inv-loop μ-loop
+mul-vote-in c = search needs
 
-array-read-with-vote : tie.Need-array-read-with-vote Inv-loop μ-loop
-array-read-with-vote c = search needs
+array-read-vote-in : tie.Need-array-read-vote-in Inv-loop μ-loop
+array-read-vote-in c = search needs
 
-array-read-with-vote-2 : tie.Need-array-read-with-vote-2 Inv-loop μ-loop
-array-read-with-vote-2 c = let j = c .before .before .before .before .loop .j in omega (arith, half-most (j + j) _ (c .before .half-of .ensures .0))
+array-read-vote-in-2 : tie.Need-array-read-vote-in-2 Inv-loop μ-loop
+array-read-vote-in-2 c = let j = c .before .before .before .before .before .loop .j in omega (arith, half-most (j + j) _ (c .before .before .half-of .ensures .0), half-most (j + j) _ (c .before .half-of2 .ensures .0), c .before .before .before .shared-slice-known3 .given (1 + j))
 
-with-vote-requires : tie.Need-with-vote-requires Inv-loop μ-loop
-with-vote-requires c κs = search needs
+vote-in-requires : tie.Need-vote-in-requires Inv-loop μ-loop
+vote-in-requires c κs = search needs
 
-add-with-vote-2 : tie.Need-add-with-vote-2 Inv-loop μ-loop
-add-with-vote-2 c = search needs
+add-vote-in-2 : tie.Need-add-vote-in-2 Inv-loop μ-loop
+add-vote-in-2 c = search needs
 
-add-with-vote-3 : tie.Need-add-with-vote-3 Inv-loop μ-loop
-add-with-vote-3 c = search needs
+add-vote-in-3 : tie.Need-add-vote-in-3 Inv-loop μ-loop
+add-vote-in-3 c = search needs
 
-mul-with-vote-2 : tie.Need-mul-with-vote-2 Inv-loop μ-loop
-mul-with-vote-2 c = search needs
+mul-vote-in-2 : tie.Need-mul-vote-in-2 Inv-loop μ-loop
+mul-vote-in-2 c = search needs
 
-array-read-with-vote-3 : tie.Need-array-read-with-vote-3 Inv-loop μ-loop
-array-read-with-vote-3 c = search needs
+array-read-vote-in-3 : tie.Need-array-read-vote-in-3 Inv-loop μ-loop
+array-read-vote-in-3 c = search needs
 
-array-read-with-vote-4 : tie.Need-array-read-with-vote-4 Inv-loop μ-loop
-array-read-with-vote-4 c =
-    let j = c .before .before .before .before .before .loop .j in
-    omega (arith, half-most (j + j) _ (c .before .half-of2 .ensures .0), c .before .before .before .shared-slice-known3 .given (1 + j))
+array-read-vote-in-4 : tie.Need-array-read-vote-in-4 Inv-loop μ-loop
+array-read-vote-in-4 c = let j = c .before .before .before .before .before .before .before .loop .j in omega (arith, half-most (j + j) _ (c .before .before .before .before .half-of .ensures .0), half-most (j + j) _ (c .before .before .before .half-of2 .ensures .0), c .before .before .before .before .before .shared-slice-known3 .given (1 + j))
 
-with-vote-requires-2 : tie.Need-with-vote-requires-2 Inv-loop μ-loop
-with-vote-requires-2 c κs = search needs
+vote-in-requires-2 : tie.Need-vote-in-requires-2 Inv-loop μ-loop
+vote-in-requires-2 c κs = search needs
 
 add-j : tie.Need-add-j Inv-loop μ-loop
 add-j c = search needs
@@ -97,13 +95,14 @@ loop-less c = search needs
 
 loop-again : tie.Need-loop-again Inv-loop μ-loop
 loop-again c =
-    let h = c .before .before .before in
-    let t = h .before .before in
+    let v = c .before .before in
+    let h = v .before .before in
+    let t = h .before .before .before in
     let l = t .before .loop in
     let a = t .before .before .before .before .before .before .args in (
       omega arith,
       turn (a .self) (a .codes .now) (l .j) (t .loop-test .taken) _ _ _ _ _ (l .inv .1)
-          (h .half-of .ensures .0) (c .before .before .half-of2 .ensures .1) (c .before .with-vote .ensures) (c .with-vote2 .ensures),
+          (h .before .half-of .ensures .0) (h .half-of2 .ensures .1) (v .vote-in .ensures) (c .vote-in2 .ensures),
     )
 
 returns : tie.Need-returns Inv-loop μ-loop
@@ -130,17 +129,17 @@ merge-spec =
     half-of-requires-2
     cast-high
     add-high
-    add-with-vote
-    mul-with-vote
-    array-read-with-vote
-    array-read-with-vote-2
-    with-vote-requires
-    add-with-vote-2
-    add-with-vote-3
-    mul-with-vote-2
-    array-read-with-vote-3
-    array-read-with-vote-4
-    with-vote-requires-2
+    add-vote-in
+    mul-vote-in
+    array-read-vote-in
+    array-read-vote-in-2
+    vote-in-requires
+    add-vote-in-2
+    add-vote-in-3
+    mul-vote-in-2
+    array-read-vote-in-3
+    array-read-vote-in-4
+    vote-in-requires-2
     add-j
     loop-less
     loop-again

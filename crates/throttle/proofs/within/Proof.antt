@@ -1,4 +1,4 @@
--- `throttle::Marks::within` meets its contract: the count and the limit are what the calls ensure.
+-- `throttle::within` meets its contract: the count and the limit are what the calls ensure.
 -- A count is at most the crossings counted, so one more fits.
 use mathlib.Core.Path.{ap₂}
 use Prim.Native.Nat.{ℕ, _+_, _-_}
@@ -7,8 +7,8 @@ use borrow.Author.Needs.{needs}
 use lib.Dec.{leb}
 use Rattle.throttle.specs.Rules.{allows}
 use Rattle.throttle.proofs.Ring.{among-le}
-use Rattle.throttle.proofs.Marks.within.Statement.{statement}
-use Rattle.throttle.proofs.Marks.within.Tie as tie
+use Rattle.throttle.proofs.within.Statement.{statement}
+use Rattle.throttle.proofs.within.Tie as tie
 
 limit-requires : tie.Need-limit-requires
 limit-requires c κs = search needs
@@ -25,7 +25,7 @@ count-requires c κs = search needs
 add-result : tie.Need-add-result
 add-result c =
     let a = c .before .before .before .args in
-    omega (arith, c .count .ensures, among-le (a .self .words) (a .n) (a .rule .period - 1))
+    omega (arith, c .count .ensures, among-le (a .marks .now) (a .n) (a .rule .period - 1))
 
 cast-result : tie.Need-cast-result
 cast-result c = search needs

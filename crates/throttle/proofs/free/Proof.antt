@@ -1,11 +1,11 @@
--- `throttle::Marks::free` meets its contract: the first rule that refuses decides.
+-- `throttle::free` meets its contract: the first rule that refuses decides.
 -- Each way out is one law, with what the calls before it told.
 use mathlib.Core.Path.{sym, _∙_}
 use borrow.Author.Tests.{not-true, not-false}
 use borrow.Author.Needs.{needs}
 use Rattle.throttle.proofs.Refusals.{blocked, first-refuses, second-refuses, third-refuses, fourth-decides}
-use Rattle.throttle.proofs.Marks.free.Statement.{statement}
-use Rattle.throttle.proofs.Marks.free.Tie as tie
+use Rattle.throttle.proofs.free.Statement.{statement}
+use Rattle.throttle.proofs.free.Tie as tie
 
 both-requires : tie.Need-both-requires
 both-requires c κs = search needs

@@ -1,4 +1,4 @@
--- `throttle::Marks::count` meets its contract: the marks counted and those of what is left make those of all.
+-- `throttle::count` meets its contract: the marks counted and those of what is left make those of all.
 -- A turn takes the crossings of one word; before crossing 0 there are none.
 use mathlib.Core.Path.{_≡_}
 use Prim.Native.Nat.{_+_, _≤_}
@@ -7,14 +7,14 @@ use native.Mathlib.Omega.{arith}
 use borrow.Author.Needs.{needs}
 use Rattle.throttle.specs.Marks.{among}
 use Rattle.throttle.proofs.Words.{among-all, among-none, count-turn, count-bounded}
-use Rattle.throttle.proofs.Marks.count.Statement.{statement}
-use Rattle.throttle.proofs.Marks.count.Tie as tie
+use Rattle.throttle.proofs.count.Statement.{statement}
+use Rattle.throttle.proofs.count.Tie as tie
 
 abbrev Inv-loop : tie.InvT-loop
-Inv-loop n k self left₀ end₀ sum₀ left end sum = (left ≤ end) × (end ≤ n) × (sum + left ≤ k) × (sum + among (self .words) end left ≡ among (self .words) n k)
+Inv-loop marks n k left₀ end₀ sum₀ left end sum = (left ≤ end) × (end ≤ n) × (sum + left ≤ k) × (sum + among marks end left ≡ among marks n k)
 
 abbrev μ-loop : tie.MeasureT-loop
-μ-loop n k self left₀ end₀ sum₀ left end sum = left
+μ-loop marks n k left₀ end₀ sum₀ left end sum = left
 
 least-requires : tie.Need-least-requires Inv-loop μ-loop
 least-requires c κs = search needs
@@ -22,7 +22,7 @@ least-requires c κs = search needs
 loop-holds : tie.Need-loop-holds Inv-loop μ-loop
 loop-holds c =
     let a = c .before .args in
-    (omega arith, omega arith, omega arith, rw (c .least .ensures, zero-add) (among-all (a .t1 .words) (a .n) (a .k)))
+    (omega arith, omega arith, omega arith, rw (c .least .ensures, zero-add) (among-all (a .marks .now) (a .n) (a .k)))
 
 sub-last : tie.Need-sub-last Inv-loop μ-loop
 sub-last c = search needs
@@ -64,7 +64,7 @@ loop-again : tie.Need-loop-again Inv-loop μ-loop
 loop-again c =
     let t = c .before .before .before in
     let l = t .before in
-    let ws = l .before .before .args .t1 .words in
+    let ws = l .before .before .args .marks .now in
     let least = count-bounded _ _ _ (c .low-ones .ensures) in
     let turn = count-turn ws (l .loop .end) (l .loop .left) _ _ (t .loop-test .taken) (l .loop .inv .0) (c .before .before .least2 .ensures) (c .low-ones .ensures) in
     (omega arith, omega arith, omega arith, omega arith)
@@ -72,7 +72,7 @@ loop-again c =
 returns : tie.Need-returns Inv-loop μ-loop
 returns c =
     let l = c .before in
-    omega (arith, among-none (l .before .before .args .t1 .words) (l .loop .end) (l .loop .left) (c .loop-test .left))
+    omega (arith, among-none (l .before .before .args .marks .now) (l .loop .end) (l .loop .left) (c .loop-test .left))
 
 pub count-spec : {M : Type 1} → statement M
 count-spec =

@@ -1,9 +1,9 @@
--- `throttle::Marks::at` meets its contract: the crossing's bit of its word.
+-- `throttle::mark` meets its contract: the crossing's bit of its word.
 -- What the call ensures.
 use borrow.Author.Needs.{needs}
 use Rattle.throttle.specs.Marks.{markAt}
-use Rattle.throttle.proofs.Marks.at.Statement.{statement}
-use Rattle.throttle.proofs.Marks.at.Tie as tie
+use Rattle.throttle.proofs.mark.Statement.{statement}
+use Rattle.throttle.proofs.mark.Tie as tie
 
 mul-bit : tie.Need-mul-bit
 mul-bit c = search needs
@@ -18,5 +18,5 @@ returns : tie.Need-returns
 unfolding markAt
 returns c = c .bit .ensures
 
-pub at-spec : {M : Type 1} → statement M
-at-spec = tie.close (tie.spec mul-bit element-copy-out-bit bit-requires returns)
+pub mark-spec : {M : Type 1} → statement M
+mark-spec = tie.close (tie.spec mul-bit element-copy-out-bit bit-requires returns)
