@@ -1,0 +1,164 @@
+// A request's fate, and the ten run counts.
+use crate::cycle::OPEN;
+use settings::Gap;
+use states::is_running;
+ghost use mathlib.Core.Path.{_≡_};
+ghost use Prim.Native.Nat.{_<_, _^_};
+ghost use Rattle.ptc.specs.Counts.{inGap, fateOf, one, lostTo, requestedOf, calibratedOf, countedOf, noCounts};
+ghost use Rattle.ptc.specs.Room.{LostRoom, CalRoom, CountsRoom};
+
+pub const SENT: u8 = 0;
+
+pub const STATE: u8 = 1;
+
+pub const SLOT: u8 = 2;
+
+pub const GAP: u8 = 3;
+
+pub const CAL: u8 = 4;
+
+pub const THROTTLE: u8 = 5;
+
+// Requests that were lost, by cause.
+pub struct Lost {
+    pub state: u64,
+    pub slot: u64,
+    pub gap: u64,
+    pub cal: u64,
+    pub throttle: u64,
+}
+
+// Calibration triggers, which balance apart.
+pub struct Calibrations {
+    pub requested: u64,
+    pub accepted: u64,
+    pub lost: u64,
+}
+
+// Since START, or the fresh board.
+pub struct Counts {
+    pub requested: u64,
+    pub accepted: u64,
+    pub lost: Lost,
+    pub cal: Calibrations,
+}
+
+pub fn one(t: bool) -> u64
+    ensures { λ r. ⌜ r ≡ one t ⌝ }
+{
+    if t { 1 } else { 0 }
+}
+
+fn in_gap(gap: Gap, number: u32) -> bool
+    ensures { λ r. ⌜ r ≡ inGap gap number ⌝ }
+{
+    gap.low <= number && number <= gap.high
+}
+
+// Lost under the first cause that holds: state, slot, gap, cal, throttle; or sent.
+pub fn fate(gap: Gap, number: u32, state: u8, own: bool, cycle: u8, free: bool) -> u8
+    ensures { λ r. ⌜ r ≡ fateOf gap number state own cycle free ⌝ }
+{
+    if !is_running(state) {
+        return STATE;
+    }
+    if !own {
+        return SLOT;
+    }
+    if in_gap(gap, number) {
+        return GAP;
+    }
+    if cycle == OPEN {
+        return CAL;
+    }
+    if free { SENT } else { THROTTLE }
+}
+
+impl Lost {
+    fn with(self, fate: u8) -> Lost
+        requires { ⌜ LostRoom self ⌝ }
+        ensures { λ r. ⌜ r ≡ lostTo fate self ⌝ }
+    {
+        Lost {
+            state: self.state + one(fate == STATE),
+            slot: self.slot + one(fate == SLOT),
+            gap: self.gap + one(fate == GAP),
+            cal: self.cal + one(fate == CAL),
+            throttle: self.throttle + one(fate == THROTTLE),
+        }
+    }
+}
+
+impl Calibrations {
+    fn with(self, asks: bool, free: bool) -> Calibrations
+        requires { ⌜ CalRoom self ⌝ }
+        ensures { λ r. ⌜ r ≡ calibratedOf asks free self ⌝ }
+    {
+        if !asks {
+            return self;
+        }
+        Calibrations {
+            requested: self.requested + 1,
+            accepted: self.accepted + one(free),
+            lost: self.lost + one(!free),
+        }
+    }
+}
+
+impl Counts {
+    pub fn none() -> Counts
+        ensures { λ r. ⌜ r ≡ noCounts ⌝ }
+    {
+        let lost = Lost {
+            state: 0,
+            slot: 0,
+            gap: 0,
+            cal: 0,
+            throttle: 0,
+        };
+        let cal = Calibrations {
+            requested: 0,
+            accepted: 0,
+            lost: 0,
+        };
+        Counts {
+            requested: 0,
+            accepted: 0,
+            lost: lost,
+            cal: cal,
+        }
+    }
+
+    fn with_request(self, asked: bool, fate: u8) -> Counts
+        requires { ⌜ CountsRoom self ⌝ }
+        ensures { λ r. ⌜ r ≡ requestedOf asked fate self ⌝ }
+    {
+        if !asked {
+            return self;
+        }
+        let lost = self.lost.with(fate);
+        let cal = self.cal;
+        Counts {
+            requested: self.requested + 1,
+            accepted: self.accepted + one(fate == SENT),
+            lost: lost,
+            cal: cal,
+        }
+    }
+
+    // A crossing's request and calibration trigger.
+    pub fn counted(self, asked: bool, fate: u8, asks: bool, free: bool) -> Counts
+        requires { ⌜ CountsRoom self ⌝ }
+        ensures { λ r. ⌜ r ≡ countedOf asked fate asks free self ⌝ }
+    {
+        let counts = self.with_request(asked, fate);
+        let lost = counts.lost;
+        let cal = self.cal.with(asks, free);
+        Counts {
+            requested: counts.requested,
+            accepted: counts.accepted,
+            lost: lost,
+            cal: cal,
+        }
+    }
+}

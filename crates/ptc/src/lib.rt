@@ -1,0 +1,217 @@
+// One partition controller: through a crossing, and under a command (document 01, "States", "Cycle and trigger").
+mod counts;
+mod cycle;
+mod sound;
+
+pub use counts::Calibrations;
+pub use counts::Counts;
+pub use counts::Lost;
+use cycle::asks_trigger;
+use cycle::cycle_code;
+use cycle::kept;
+use cycle::opened;
+use settings::Gap;
+use settings::Schedule;
+use settings::Waits;
+ghost use mathlib.Core.Path.{_≡_};
+ghost use mathlib.Core.Bool.{_&&_, _||_};
+ghost use Prim.Native.Nat.{_<_, _^_};
+ghost use lib.Dec.{eqb};
+ghost use Rattle.laws.specs.Base.{if};
+ghost use Rattle.ptc.specs.Counts.{noCounts};
+ghost use Rattle.ptc.specs.Room.{Room};
+ghost use Rattle.ptc.specs.Crossing.{freeIn, codeOf, eventsOf, crossedOf};
+ghost use Rattle.ptc.specs.Command.{armedPtc, ledPtc, commandedOf};
+
+pub struct Ptc {
+    pub state: u8,
+    pub wait: u32,
+    // 0 none, 1 armed, 2 open.
+    pub cycle: u8,
+    pub counts: Counts,
+    // Triggers of both kinds since code 7.
+    pub events: u64,
+}
+
+// What of the settings a controller goes by.
+pub struct Plan {
+    pub at: Schedule,
+    pub waits: Waits,
+    pub gap: Gap,
+}
+
+// What all eight see of a crossing: its number, the holder, and whether a trigger is free at normal and at low limits.
+pub struct Scene {
+    pub number: u32,
+    pub holder: u32,
+    pub norm: bool,
+    pub low: bool,
+}
+
+// A controller after a crossing, and what it sent in it.
+pub struct Crossed {
+    pub ptc: Ptc,
+    pub code: u8,
+    pub sent: bool,
+    pub cal: bool,
+}
+
+pub struct Commanded {
+    pub ptc: Ptc,
+    pub taken: bool,
+}
+
+impl Scene {
+    fn free_in(self, state: u8) -> bool
+        ensures { λ r. ⌜ r ≡ freeIn self state ⌝ }
+    {
+        if state == 8 { self.low } else { self.norm }
+    }
+}
+
+fn code_of(step: u8, orbit: u8, cycle: u8) -> u8
+    ensures { λ r. ⌜ r ≡ codeOf step orbit cycle ⌝ }
+{
+    if 0 < step {
+        return step;
+    }
+    if 0 < orbit { orbit } else { cycle }
+}
+
+fn events_before(step: u8, events: u64) -> u64
+    ensures { λ r. ⌜ r ≡ if (eqb step 7) 0 events ⌝ }
+{
+    if step == 7 { 0 } else { events }
+}
+
+fn events_of(step: u8, events: u64, sent: bool, cal: bool) -> u64
+    requires { ⌜ events < 2 ^ 41 ⌝ }
+    ensures { λ r. ⌜ r ≡ eventsOf step events sent cal ⌝ }
+{
+    let before = events_before(step, events);
+    before + counts::one(either(sent, cal))
+}
+
+fn both(a: bool, b: bool) -> bool
+    ensures { λ r. ⌜ r ≡ (a && b) ⌝ }
+{
+    a && b
+}
+
+fn either(a: bool, b: bool) -> bool
+    ensures { λ r. ⌜ r ≡ (a || b) ⌝ }
+{
+    a || b
+}
+
+fn is_sent(fate: u8) -> bool
+    ensures { λ r. ⌜ r ≡ eqb fate 0 ⌝ }
+{
+    fate == counts::SENT
+}
+
+// A cycle ends with the crossing in which it asks for its trigger.
+fn ended(asks: bool, cycle: u8) -> u8
+    ensures { λ r. ⌜ r ≡ if asks 0 cycle ⌝ }
+{
+    if asks { cycle::NONE } else { cycle }
+}
+
+impl Ptc {
+    // Steps 3 and 4 of a crossing: the move, then the cycle and the trigger by the state after it.
+    pub fn crossed(self, plan: Plan, scene: Scene, k: u32, class: u8, asked: bool) -> Crossed
+        requires { ⌜ Room self ⌝ }
+        ensures { λ r. ⌜ r ≡ crossedOf plan scene k class asked self ⌝ }
+    {
+        let at = plan.at;
+        let number = scene.number;
+        let own = k == scene.holder;
+        let step = states::advance(at, plan.waits, k, number, class, self.state, self.wait);
+        let before = kept(step.state, own, self.cycle);
+        let cycle = opened(at, number, own, before);
+        let asks = asks_trigger(at, number, cycle);
+        let free = scene.free_in(step.state);
+        let fate = counts::fate(plan.gap, number, step.state, own, cycle, free);
+        let sent = both(asked, is_sent(fate));
+        let cal = both(asks, free);
+        let counts = self.counts.counted(asked, fate, asks, free);
+        let ptc = Ptc {
+            state: step.state,
+            wait: step.wait,
+            cycle: ended(asks, cycle),
+            counts: counts,
+            events: events_of(step.code, self.events, sent, cal),
+        };
+        let orbit = states::orbit_code(at, number);
+        Crossed {
+            ptc: ptc,
+            code: code_of(step.code, orbit, cycle_code(at, number, before, cycle)),
+            sent: sent,
+            cal: cal,
+        }
+    }
+
+    // CALIBRATE arms a cycle.
+    fn armed(self) -> Ptc
+        ensures { λ r. ⌜ r ≡ armedPtc self ⌝ }
+    {
+        let counts = self.counts;
+        Ptc {
+            state: self.state,
+            wait: self.wait,
+            cycle: cycle::ARMED,
+            counts: counts,
+            events: self.events,
+        }
+    }
+
+    // START begins the run counts anew.
+    fn counts_after(self, command: u8) -> Counts
+        ensures { λ r. ⌜ r ≡ if (eqb command 1) noCounts (self .counts) ⌝ }
+    {
+        if command == 1 {
+            return Counts::none();
+        }
+        self.counts
+    }
+
+    // The other commands lead to a state, set its wait and drop the cycle.
+    fn led(self, waits: Waits, command: u8) -> Ptc
+        ensures { λ r. ⌜ r ≡ ledPtc waits command self ⌝ }
+    {
+        let state = states::state_after(command, self.state);
+        let counts = self.counts_after(command);
+        Ptc {
+            state: state,
+            wait: states::entry_wait(waits, state),
+            cycle: cycle::NONE,
+            counts: counts,
+            events: self.events,
+        }
+    }
+
+    // A command that is not taken changes nothing.
+    pub fn command(self, waits: Waits, command: u8) -> Commanded
+        ensures { λ r. ⌜ r ≡ commandedOf waits command self ⌝ }
+    {
+        let busy = self.cycle != 0;
+        if !states::takes(command, self.state, busy) {
+            return Commanded {
+                ptc: self,
+                taken: false,
+            };
+        }
+        if command == 5 {
+            let ptc = self.armed();
+            return Commanded {
+                ptc: ptc,
+                taken: true,
+            };
+        }
+        let ptc = self.led(waits, command);
+        Commanded {
+            ptc: ptc,
+            taken: true,
+        }
+    }
+}
