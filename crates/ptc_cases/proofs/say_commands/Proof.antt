@@ -1,0 +1,63 @@
+-- `ptc_cases::say_commands` is safe and ends: its loop counts up to a fixed end.
+-- What is left of the count is the measure.
+use Prim.Native.Nat.{_-_, _≤_}
+use borrow.Author.Needs.{needs}
+use Rattle.ptc_cases.proofs.say_commands.Statement.{statement}
+use Rattle.ptc_cases.proofs.say_commands.Tie as tie
+
+abbrev Inv-loop : tie.InvT-loop
+Inv-loop state cycle command₀ t5 command = command ≤ 8
+
+abbrev μ-loop : tie.MeasureT-loop
+μ-loop state cycle command₀ t5 command = 8 - command
+
+say-number-requires : tie.Need-say-number-requires Inv-loop μ-loop
+say-number-requires c κs = search needs
+
+slice-aggregate-say : tie.Need-slice-aggregate-say Inv-loop μ-loop
+slice-aggregate-say c = search needs
+
+say-requires : tie.Need-say-requires Inv-loop μ-loop
+say-requires c κs = search needs
+
+loop-holds : tie.Need-loop-holds Inv-loop μ-loop
+loop-holds c = search needs
+
+say-command-requires : tie.Need-say-command-requires Inv-loop μ-loop
+say-command-requires c κs = search needs
+
+add-command : tie.Need-add-command Inv-loop μ-loop
+add-command c = search needs
+
+loop-less : tie.Need-loop-less Inv-loop μ-loop
+loop-less c = search needs
+
+loop-again : tie.Need-loop-again Inv-loop μ-loop
+loop-again c = search needs
+
+slice-aggregate-say-2 : tie.Need-slice-aggregate-say-2 Inv-loop μ-loop
+slice-aggregate-say-2 c = search needs
+
+say-requires-2 : tie.Need-say-requires-2 Inv-loop μ-loop
+say-requires-2 c κs = search needs
+
+returns : tie.Need-returns Inv-loop μ-loop
+returns c = search needs
+
+pub say-commands-spec : {M : Type 1} → statement M
+say-commands-spec =
+    tie.close
+    (tie.spec
+    Inv-loop
+    μ-loop
+    say-number-requires
+    slice-aggregate-say
+    say-requires
+    loop-holds
+    say-command-requires
+    add-command
+    loop-less
+    loop-again
+    slice-aggregate-say-2
+    say-requires-2
+    returns)
