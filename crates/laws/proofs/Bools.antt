@@ -2,6 +2,7 @@
 -- By cases on the Bools.
 use mathlib.Core.Path.{_≡_, refl}
 use mathlib.Core.Bool.{Bool, true, false, _&&_, false≢true}
+use Prim.Native.Nat.{ℕ, _≤_}
 use Rattle.laws.specs.Base.{if}
 
 pub both : (a b : Bool) → a && b ≡ true → (a ≡ true) × (b ≡ true)
@@ -14,6 +15,15 @@ and-yes a b p q = rw (p, q)
 pub and-true : (a : Bool) → a && true ≡ a
 and-true true = refl
 and-true false = refl
+
+-- what holds at both arms of an `if` holds of it
+pub if-has : {A : Type 0} (P : A → Type 0) (t : Bool) (x y : A) → (t ≡ true → P x) → (t ≡ false → P y) → P (if t x y)
+if-has P true x y p q = p refl
+if-has P false x y p q = q refl
+
+pub if-most : (t : Bool) (x y b : ℕ) → x ≤ b → y ≤ b → if t x y ≤ b
+if-most true x y b p q = p
+if-most false x y b p q = q
 
 -- which way an `if` went, from a value that its other branch is not
 pub if-yes : {A : Type 0} (t : Bool) (x y z : A) → if t x y ≡ z → (y ≡ z → ⊥) → (t ≡ true) × (x ≡ z)

@@ -6,7 +6,7 @@ use Prim.Native.Nat.{ℕ, _+_, _*_, _≤_}
 use native.Mathlib.Omega.{arith}
 use borrow.Author.Tests.{leb-true}
 use Rattle.laws.specs.Base.{if}
-use Rattle.laws.proofs.Bools.{both}
+use Rattle.laws.proofs.Bools.{both, if-most}
 use Rattle.ptc.specs.declared.counts.Lost.{Lost}
 use Rattle.ptc.specs.declared.counts.Calibrations.{Calibrations}
 use Rattle.ptc.specs.Counts.{one}
@@ -17,8 +17,7 @@ one-le true = omega arith
 one-le false = omega arith
 
 pub if-zero-le : (t : Bool) (n : ℕ) → if t 0 n ≤ n
-if-zero-le true n = omega arith
-if-zero-le false n = omega arith
+if-zero-le t n = if-most t 0 n n (omega arith) (omega arith)
 
 pub record LostWithin (m : ℕ) (l : Lost) : Type 0 where
   pub state : l .state ≤ m

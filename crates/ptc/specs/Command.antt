@@ -1,6 +1,6 @@
 -- Document 01, "States", the commands: what one that is taken changes. Elsewhere nothing changes.
 use Prim.Native.Nat.{ℕ}
-use mathlib.Core.Bool.{Bool, true, false, not}
+use mathlib.Core.Bool.{true, false, not}
 use lib.Dec.{eqb}
 use Rattle.laws.specs.Base.{if}
 use Rattle.settings.specs.declared.names.Waits.{Waits}

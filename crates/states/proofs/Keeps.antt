@@ -8,7 +8,7 @@ use native.Mathlib.Omega.{arith}
 use borrow.Author.Tests.{le-leb, eq-eqb, ne-eqb, leb-true, eqb-true, eqb-false, not-true}
 use lib.Dec.{leb, eqb}
 use Rattle.laws.specs.Base.{if}
-use Rattle.laws.proofs.Bools.{both}
+use Rattle.laws.proofs.Bools.{both, if-has, if-most}
 use Rattle.laws.proofs.Tests.{either, same-or-not}
 use Rattle.settings.specs.declared.names.Schedule.{Schedule}
 use Rattle.settings.specs.declared.names.Waits.{Waits}
@@ -18,15 +18,6 @@ use Rattle.states.specs.Names.{statusOf}
 use Rattle.states.specs.Moves.{goes, timed, afterResync, whileRunning, whileDisconnected, moveOf, entryWait, movedOf}
 use Rattle.states.specs.Commands.{stateAfter}
 use Rattle.states.specs.Sound.{waiting, soundState, soundWaits}
-
--- what holds at both arms of an `if` holds of it
-if-has : {A : Type 0} (P : A → Type 0) (t : Bool) (x y : A) → (t ≡ true → P x) → (t ≡ false → P y) → P (if t x y)
-if-has P true x y p q = p refl
-if-has P false x y p q = q refl
-
-if-most : (t : Bool) (x y b : ℕ) → x ≤ b → y ≤ b → if t x y ≤ b
-if-most true x y b p q = p
-if-most false x y b p q = q
 
 -- a state that does not wait is entered with wait 0
 pub entry-waiting : (w : Waits) (s : ℕ) → waiting s ≡ false → entryWait w s ≡ 0

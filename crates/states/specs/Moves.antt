@@ -1,6 +1,6 @@
 -- Document 01, "States" (003, 3.6.1): the move of each state, with the code that it sends, and the wait that is set on entry.
 use Prim.Native.Nat.{ℕ, _-_}
-use lib.Dec.{leb, ltb, eqb}
+use lib.Dec.{leb, eqb}
 use Rattle.laws.specs.Base.{if}
 use Rattle.settings.specs.declared.names.Schedule.{Schedule}
 use Rattle.settings.specs.declared.names.Waits.{Waits}

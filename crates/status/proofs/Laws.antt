@@ -12,6 +12,7 @@ use lib.Dec.{ltb, eqb}
 use lib.ListN.{length, getD, set, length-set, getD-replicate}
 use lib.Seq.{getD-set-same, getD-set-other, ext-getD}
 use Rattle.laws.specs.Base.{if, highest, tabulate}
+use Rattle.laws.proofs.Bools.{if-most}
 use Rattle.laws.proofs.Tests.{either, lt-or-ge, same-or-not}
 use Rattle.laws.proofs.Over.{length-tabulate, getD-tabulate}
 use Rattle.settings.specs.declared.Settings.{Settings}
@@ -137,10 +138,6 @@ same-vote s a b k i e = rw e
 -- a member that is left out changes nothing
 pub left-out : (s : Settings) (a b : List ℕ) (k : ℕ) → ((i : ℕ) → i < 41 → (codeAt a i ≡ codeAt b i) ⊎ ((vote s a k i ≡ 0) × (vote s b k i ≡ 0))) → merged s a k ≡ merged s b k
 left-out s a b k h = merge-same s s a b k (λ i l. ⊎-elim (λ e. same-vote s a b k i e) (λ w. w .0 ∙ sym (w .1)) (h i l))
-
-if-most : (t : Bool) (x y b : ℕ) → x ≤ b → y ≤ b → if t x y ≤ b
-if-most true x y b p q = p
-if-most false x y b p q = q
 
 class-low : (i c : ℕ) → classOf i c ≤ 7
 unfolding classOf
