@@ -3,7 +3,8 @@
 use mathlib.Core.Path.{_≡_, refl}
 use mathlib.Core.Bool.{Bool, true, false, _&&_, false≢true}
 use Prim.Native.Nat.{ℕ, _≤_}
-use Rattle.laws.specs.Base.{if}
+use native.Mathlib.Omega.{arith}
+use Rattle.laws.specs.Base.{if, one}
 
 pub both : (a b : Bool) → a && b ≡ true → (a ≡ true) × (b ≡ true)
 both true b e = (refl, e)
@@ -24,6 +25,9 @@ if-has P false x y p q = q refl
 pub if-most : (t : Bool) (x y b : ℕ) → x ≤ b → y ≤ b → if t x y ≤ b
 if-most true x y b p q = p
 if-most false x y b p q = q
+
+pub one-le : (t : Bool) → one t ≤ 1
+one-le t = if-most t 1 0 1 (omega arith) (omega arith)
 
 -- which way an `if` went, from a value that its other branch is not
 pub if-yes : {A : Type 0} (t : Bool) (x y z : A) → if t x y ≡ z → (y ≡ z → ⊥) → (t ≡ true) × (x ≡ z)

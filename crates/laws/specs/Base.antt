@@ -7,6 +7,10 @@ abbrev pub if : {A : Type 0} → Bool → A → A → A
 if true a b = a
 if false a b = b
 
+-- what a test adds to a count
+abbrev pub one : Bool → ℕ
+one t = if t 1 0
+
 -- every element passes the test
 unfoldable pub allB : {A : Type 0} → (A → Bool) → List A → Bool
 allB p [] = true

@@ -6,14 +6,14 @@ use Prim.Native.Nat.{ℕ, _+_, _≤_}
 use native.Mathlib.Omega.{arith}
 use borrow.Author.Tests.{leb-true, eqb-true, le-leb, eq-eqb}
 use lib.Dec.{eqb}
-use Rattle.laws.specs.Base.{if}
+use Rattle.laws.specs.Base.{if, one}
 use Rattle.laws.proofs.Bools.{both, and-yes}
 use Rattle.settings.specs.declared.names.Gap.{Gap}
 use Rattle.states.specs.Names.{running}
 use Rattle.ptc.specs.declared.counts.Counts.{Counts}
 use Rattle.ptc.specs.declared.counts.Lost.{Lost}
 use Rattle.ptc.specs.declared.counts.Calibrations.{Calibrations}
-use Rattle.ptc.specs.Counts.{inGap, fateOf, one, lostTo, requestedOf, calibratedOf, countedOf, noCounts}
+use Rattle.ptc.specs.Counts.{inGap, fateOf, lostTo, requestedOf, calibratedOf, countedOf, noCounts}
 use Rattle.ptc.specs.Sound.{soundLost, soundCal, lostSum, soundCounts}
 use Rattle.ptc.proofs.Tallies.{LostWithin, CalWithin, lost-read, cal-read}
 

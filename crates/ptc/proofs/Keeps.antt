@@ -8,7 +8,7 @@ use native.Mathlib.Omega.{arith}
 use borrow.Author.Tests.{le-leb, leb-true, ne-eqb}
 use lib.Dec.{eqb}
 use Rattle.laws.specs.Base.{if}
-use Rattle.laws.proofs.Bools.{both, and-yes}
+use Rattle.laws.proofs.Bools.{both, and-yes, one-le}
 use Rattle.laws.proofs.Tests.{either, same-or-not}
 use Rattle.settings.specs.declared.names.Waits.{Waits}
 use Rattle.states.specs.Names.{running}
@@ -25,7 +25,7 @@ use Rattle.ptc.specs.Crossing.{freeIn, eventsOf, crossedOf}
 use Rattle.ptc.specs.Command.{armedPtc, ledPtc, commandedOf}
 use Rattle.ptc.specs.Room.{Room}
 use Rattle.ptc.specs.Sound.{soundCycle, soundCounts, soundPtc}
-use Rattle.ptc.proofs.Tallies.{one-le, if-zero-le}
+use Rattle.ptc.proofs.Tallies.{if-zero-le}
 use Rattle.ptc.proofs.Balance.{counts-read, counted-sound, none-sound, fate-once}
 use Rattle.ptc.proofs.Cycles.{cycle-sound}
 

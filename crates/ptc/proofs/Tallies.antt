@@ -1,7 +1,7 @@
--- Bounds of the counting: what is added for a test is at most 1, and losses that are each within m sum up to at most five times m.
--- By cases on the test, and by reading the conjunction part by part.
+-- Bounds of the counting: losses that are each within m sum up to at most five times m.
+-- By reading the conjunction part by part.
 use mathlib.Core.Path.{_≡_}
-use mathlib.Core.Bool.{Bool, true, false}
+use mathlib.Core.Bool.{Bool, true}
 use Prim.Native.Nat.{ℕ, _+_, _*_, _≤_}
 use native.Mathlib.Omega.{arith}
 use borrow.Author.Tests.{leb-true}
@@ -9,12 +9,7 @@ use Rattle.laws.specs.Base.{if}
 use Rattle.laws.proofs.Bools.{both, if-most}
 use Rattle.ptc.specs.declared.counts.Lost.{Lost}
 use Rattle.ptc.specs.declared.counts.Calibrations.{Calibrations}
-use Rattle.ptc.specs.Counts.{one}
 use Rattle.ptc.specs.Sound.{soundLost, soundCal, lostSum}
-
-pub one-le : (t : Bool) → one t ≤ 1
-one-le true = omega arith
-one-le false = omega arith
 
 pub if-zero-le : (t : Bool) (n : ℕ) → if t 0 n ≤ n
 if-zero-le t n = if-most t 0 n n (omega arith) (omega arith)

@@ -2,7 +2,7 @@
 use Prim.Native.Nat.{ℕ, _+_}
 use mathlib.Core.Bool.{Bool, not, _&&_}
 use lib.Dec.{leb, eqb}
-use Rattle.laws.specs.Base.{if}
+use Rattle.laws.specs.Base.{if, one}
 use Rattle.settings.specs.declared.names.Gap.{Gap}
 use Rattle.states.specs.Names.{running}
 use Rattle.ptc.specs.declared.counts.Counts.{Counts}
@@ -42,9 +42,6 @@ fateOf g number s own cycle free =
     (if free SENT THROTTLE)))
     SLOT)
     STATE
-
-abbrev pub one : Bool → ℕ
-one t = if t 1 0
 
 -- a request counts once, under its fate
 unfoldable pub lostTo : ℕ → Lost → Lost

@@ -2,7 +2,7 @@
 use Prim.Native.Nat.{ℕ, _+_}
 use mathlib.Core.Bool.{Bool, _&&_, _||_}
 use lib.Dec.{ltb, eqb}
-use Rattle.laws.specs.Base.{if}
+use Rattle.laws.specs.Base.{if, one}
 use Rattle.states.specs.Names.{WARN}
 use Rattle.states.specs.Moves.{movedOf, orbitCode}
 use Rattle.ptc.specs.declared.Ptc.{Ptc}
@@ -10,7 +10,7 @@ use Rattle.ptc.specs.declared.Plan.{Plan}
 use Rattle.ptc.specs.declared.Scene.{Scene}
 use Rattle.ptc.specs.declared.Crossed.{Crossed}
 use Rattle.ptc.specs.Cycle.{NONE, keptOf, openedOf, cycleCode, asksOf}
-use Rattle.ptc.specs.Counts.{SENT, fateOf, one, countedOf}
+use Rattle.ptc.specs.Counts.{SENT, fateOf, countedOf}
 
 -- READY uses normal limits, WARN low ones
 abbrev pub freeIn : Scene → ℕ → Bool

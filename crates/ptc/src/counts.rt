@@ -4,7 +4,8 @@ use settings::Gap;
 use states::is_running;
 ghost use mathlib.Core.Path.{_≡_};
 ghost use Prim.Native.Nat.{_<_, _^_};
-ghost use Rattle.ptc.specs.Counts.{inGap, fateOf, one, lostTo, requestedOf, calibratedOf, countedOf, noCounts};
+ghost use Rattle.laws.specs.Base.{one};
+ghost use Rattle.ptc.specs.Counts.{inGap, fateOf, lostTo, requestedOf, calibratedOf, countedOf, noCounts};
 ghost use Rattle.ptc.specs.Room.{LostRoom, CalRoom, CountsRoom};
 
 pub const SENT: u8 = 0;

@@ -3,7 +3,8 @@
 use native.Mathlib.Omega.{arith}
 use borrow.Author.Needs.{needs}
 use lib.Dec.{eqb}
-use Rattle.ptc.proofs.Tallies.{one-le, if-zero-le}
+use Rattle.laws.proofs.Bools.{one-le}
+use Rattle.ptc.proofs.Tallies.{if-zero-le}
 use Rattle.ptc.proofs.events_of.Statement.{statement}
 use Rattle.ptc.proofs.events_of.Tie as tie
 

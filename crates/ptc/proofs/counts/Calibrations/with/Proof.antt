@@ -4,8 +4,8 @@ use mathlib.Core.Bool.{not}
 use native.Mathlib.Omega.{arith}
 use borrow.Author.Tests.{not-true, not-false}
 use borrow.Author.Needs.{needs}
+use Rattle.laws.proofs.Bools.{one-le}
 use Rattle.ptc.specs.Counts.{calibratedOf}
-use Rattle.ptc.proofs.Tallies.{one-le}
 use Rattle.ptc.proofs.counts.Calibrations.with.Statement.{statement}
 use Rattle.ptc.proofs.counts.Calibrations.with.Tie as tie
 

@@ -4,8 +4,8 @@ use native.Mathlib.Omega.{arith}
 use borrow.Author.Tests.{not-true, not-false}
 use borrow.Author.Needs.{needs}
 use lib.Dec.{eqb}
+use Rattle.laws.proofs.Bools.{one-le}
 use Rattle.ptc.specs.Counts.{requestedOf}
-use Rattle.ptc.proofs.Tallies.{one-le}
 use Rattle.ptc.proofs.counts.Counts.with_request.Statement.{statement}
 use Rattle.ptc.proofs.counts.Counts.with_request.Tie as tie
 

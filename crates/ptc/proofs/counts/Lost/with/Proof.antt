@@ -3,8 +3,8 @@
 use native.Mathlib.Omega.{arith}
 use borrow.Author.Needs.{needs}
 use lib.Dec.{eqb}
+use Rattle.laws.proofs.Bools.{one-le}
 use Rattle.ptc.specs.Counts.{lostTo}
-use Rattle.ptc.proofs.Tallies.{one-le}
 use Rattle.ptc.proofs.counts.Lost.with.Statement.{statement}
 use Rattle.ptc.proofs.counts.Lost.with.Tie as tie
 
