@@ -2,11 +2,12 @@
 -- The loop's invariant is `firstNot p n 0 ≡ firstNot p (n - k) k`; each law opens one place of what is left.
 use mathlib.Core.Path.{_≡_, sym, _∙_}
 use mathlib.Core.Bool.{Bool, true, false}
-use Prim.Native.Nat.{ℕ, suc, _+_, _-_, _<_}
-use native.Mathlib.Nat.{sub-self, sub-zero}
+use Prim.Native.Nat.{ℕ, zero, suc, _+_, _-_, _<_}
+use native.Mathlib.Nat.{sub-self, sub-zero, add-zero, add-suc, suc-add, le-of-suc-le-suc, not-suc-le-zero}
 use native.Mathlib.Numerals.{add-one}
 use native.Mathlib.Omega.{arith}
 use Rattle.laws.specs.Base.{firstNot}
+use Rattle.laws.proofs.Bools.{if-yes}
 
 module _ (p : ℕ → Bool) (n : ℕ) where
   pub first-start : firstNot p n 0 ≡ firstNot p (n - 0) 0
@@ -23,3 +24,12 @@ module _ (p : ℕ → Bool) (n : ℕ) where
   pub first-end : (k : ℕ) → k ≡ n → firstNot p n 0 ≡ firstNot p (n - k) k → n ≡ firstNot p n 0
   unfolding firstNot
   first-end k h i = sym (i ∙ rw (h, sub-self))
+
+-- where none is found to fail, none fails
+pub first-all : (p : ℕ → Bool) (n k : ℕ) → firstNot p n k ≡ k + n → (i : ℕ) → i < n → p (k + i) ≡ true
+unfolding firstNot
+first-all p zero k e i h = absurd (not-suc-le-zero h)
+first-all p (suc n) k e zero h = rw add-zero (if-yes (p k) (firstNot p n (suc k)) k (k + suc n) e (λ z. omega arith) .0)
+first-all p (suc n) k e (suc i) h =
+    let w = if-yes (p k) (firstNot p n (suc k)) k (k + suc n) e (λ z. omega arith) in
+    rw (add-suc, ← suc-add) (first-all p n (suc k) (w .1 ∙ rw (add-suc, ← suc-add)) i (le-of-suc-le-suc h))

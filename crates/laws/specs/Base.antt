@@ -16,6 +16,11 @@ unfoldable pub allB : {A : Type 0} → (A → Bool) → List A → Bool
 allB p [] = true
 allB p (a ∷ l) = p a && allB p l
 
+-- every element passes the test of its place, counted from i
+unfoldable pub allI : {A : Type 0} → (ℕ → A → Bool) → ℕ → List A → Bool
+allI p i [] = true
+allI p i (a ∷ l) = p i a && allI p (suc i) l
+
 -- f of each place, counted from i, and of the element there
 unfoldable pub mapI : {A B : Type 0} → (ℕ → A → B) → ℕ → List A → List B
 mapI f i [] = []

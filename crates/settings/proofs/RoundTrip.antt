@@ -97,7 +97,7 @@ text-reads-back s long e =
     ∙ rw (p .related)
 
 -- the check tells a success by its number
-check-done : (n k : ℕ) → succeeded (unless RANGE n (unless RELATION k DONE)) ≡ true → unless RANGE n (unless RELATION k DONE) ≡ DONE
+pub check-done : (n k : ℕ) → succeeded (unless RANGE n (unless RELATION k DONE)) ≡ true → unless RANGE n (unless RELATION k DONE) ≡ DONE
 check-done zero zero e = refl
 check-done zero (suc k) e = absurd (false≢true e)
 check-done (suc n) k e = absurd (false≢true e)

@@ -1,6 +1,7 @@
 mod Bits
 pub mod Ring
 mod Words
+pub mod Sound
 pub mod Windows
 mod Refusals
 pub mod Instances

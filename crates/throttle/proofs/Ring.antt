@@ -33,7 +33,7 @@ unfolding among
 among-le ws n zero = omega arith
 among-le ws n (suc k) = omega (arith, among-le ws n k, back-le ws n k)
 
-marked-long : (ws : List ℕ) (c x : ℕ) → length (marked ws c x) ≡ length ws
+pub marked-long : (ws : List ℕ) (c x : ℕ) → length (marked ws c x) ≡ length ws
 unfolding marked
 marked-long ws c x = length-set ws _ _
 
@@ -42,13 +42,13 @@ unfolding passed
 passed-long ws c x = marked-long (marked ws c x) (c + 1) 0 ∙ marked-long ws c x
 
 module _ (ws : List ℕ) (l : length ws ≡ 32) (x : ℕ) (b : x < 2) where
-  mark-new : (c : ℕ) → markAt (marked ws c x) c ≡ x
+  pub mark-new : (c : ℕ) → markAt (marked ws c x) c ≡ x
   unfolding markAt marked
   mark-new c =
       let h : c / 64 % 32 < length ws = omega arith in
       rw (getD-set-same ws (c / 64 % 32) _ 0 h) (bit-put _ _ x b)
 
-  mark-old : (c e : ℕ) → e % 2048 ≢ c % 2048 → markAt (marked ws c x) e ≡ markAt ws e
+  pub mark-old : (c e : ℕ) → e % 2048 ≢ c % 2048 → markAt (marked ws c x) e ≡ markAt ws e
   unfolding markAt marked
   mark-old c e ne = go (ℕ-discrete (e / 64 % 32) (c / 64 % 32))
     where

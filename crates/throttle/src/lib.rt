@@ -7,6 +7,7 @@ ghost use mathlib.Core.Bool.{_&&_};
 ghost use Prim.Native.Nat.{_+_, _<_, _≤_, _^_, min};
 ghost use lib.Count.{onesIn};
 ghost use Rattle.throttle.specs.Marks.{bitAt, putBit, markAt, marked, passed, markBack, among};
+ghost use Rattle.throttle.specs.Sound.{soundMarks};
 ghost use Rattle.throttle.specs.Rules.{limitOf, allows, Sensible, free};
 
 fn bit(w: u64, k: u64) -> u64
@@ -94,6 +95,23 @@ pub fn count(marks: &[u64; 32], n: u64, k: u64) -> u64
         left -= taken;
     }
     sum
+}
+
+// After n crossings: whether the places that belong to none of the last 2,047 are clear.
+pub fn is_sound(marks: &[u64; 32], n: u64) -> bool
+    requires { ⌜ n < 2 ^ 63 ⌝ }
+    ensures { λ r. ⌜ r ≡ soundMarks n (now (marks .entry)) ⌝ }
+{
+    let mut left = 2048 - least(n, 2047);
+    let mut c = n;
+    while 0 < left {
+        if mark(marks, c) != 0 {
+            return false;
+        }
+        c += 1;
+        left -= 1;
+    }
+    true
 }
 
 fn limit(rule: Rule, warn: bool) -> u32
