@@ -1,0 +1,115 @@
+-- A crossing put together from its calls: what each of them asks of a sound board, and what their answers make.
+-- The kit holds what the settings say, so each answer is the definition's; bytes of a record are codes.
+use mathlib.Core.Path.{_≡_, refl, _∙_}
+use mathlib.Core.Bool.{Bool, true}
+use mathlib.Core.List.{List, [], _∷_, _++_}
+use Prim.Native.Nat.{ℕ, suc, _≤_, _<_}
+use native.Mathlib.Omega.{arith}
+use borrow.Author.Tests.{lt-ltb}
+use lib.Dec.{ltb}
+use lib.ListN.{length, getD, take, drop, length-drop}
+use lib.Seq.{getD-drop, take-all}
+use Rattle.laws.specs.Base.{allB, mapI}
+use Rattle.laws.proofs.Bools.{and-yes}
+use Rattle.settings.specs.Names.{orbitOf, rulesOf, warnBlocksOf}
+use Rattle.status.specs.Codes.{Coded}
+use Rattle.status.specs.Merge.{classes}
+use Rattle.status.specs.Merger.{voted}
+use Rattle.status.proofs.Laws.{one-pass}
+use Rattle.throttle.specs.Rules.{Sensible}
+use Rattle.clock.specs.declared.Clock.{Clock}
+use Rattle.clock.specs.declared.Turn.{Turn}
+use Rattle.clock.specs.Clock.{numberOf, orbitEnds}
+use Rattle.clock.specs.Turn.{turnedOf}
+use Rattle.clock.specs.Room.{ClockRoom, SlotRoom}
+use Rattle.clock.proofs.Keeps.{clock-roomy, holder-most}
+use Rattle.states.specs.Names.{statusOf}
+use Rattle.states.proofs.Keeps.{status-low}
+use Rattle.ptc.specs.declared.Ptc.{Ptc}
+use Rattle.ptc.specs.declared.Plan.{Plan}
+use Rattle.ptc.specs.declared.Scene.{Scene}
+use Rattle.records.specs.Records.{isCrossing, well, markerIn, codesIn}
+use Rattle.records.specs.Rows.{carries, crossingRow}
+use Rattle.records.specs.Refusal.{MOST}
+use Rattle.records.proofs.Laws.{crossing-kind}
+use Rattle.board.specs.declared.Board.{Board}
+use Rattle.board.specs.declared.Kit.{Kit}
+use Rattle.board.specs.Kit.{kitOf}
+use Rattle.board.specs.Crossing.{withPtcs, turnIn, sceneAt, sceneOf, ptcOf, byteOf, shownOf, eight, clockOf, passedOn, boardCrossed, rowCrossed}
+use Rattle.board.specs.Sound.{soundBoard}
+use Rattle.board.proofs.Settled.{sound-parts, slot-room, sensible, orbit-some}
+
+-- ---- what the calls ask
+
+-- the codes of a well-formed crossing's record, as code lends them
+pub codes-lent : (rec : List ℕ) → length rec ≡ 24 → take 21 (drop 3 rec) ≡ codesIn rec
+codes-lent rec long = take-all 21 (drop 3 rec) (rw length-drop (omega arith))
+
+pub coded : (rec : List ℕ) → length rec ≡ 24 → well rec ≡ true → isCrossing rec ≡ true → ((n : ℕ) → getD rec n 0 < 256) → Coded (codesIn rec)
+coded rec long w k bytes = record {
+  long = rw length-drop (omega arith);
+  gtfe = rw (getD-drop 3 rec 0 0) (omega (arith, crossing-kind rec w k));
+  bytes = λ n. rw (getD-drop 3 rec n 0) (bytes _);
+}
+
+-- a status fits in a nibble
+status-fits : (s : ℕ) → ltb (statusOf s) 16 ≡ true
+status-fits s = lt-ltb (statusOf s) 16 (omega (arith, status-low s))
+
+pub shown-low : (plan : Plan) (scene : Scene) (codes : List ℕ) (requests i : ℕ) (ps : List Ptc)
+    → allB (λ s. ltb s 16) (mapI (shownOf plan scene codes requests) i ps) ≡ true
+unfolding allB mapI shownOf
+shown-low plan scene codes requests i [] = refl
+shown-low plan scene codes requests i (p ∷ ps) = and-yes _ _ (status-fits _) (shown-low plan scene codes requests (suc i) ps)
+
+pub clock-room : (b : Board) → soundBoard b ≡ true → ClockRoom (b .clock)
+clock-room b e =
+    let p = sound-parts b e in
+    let orbit = orbit-some (b .settings) (p .checks) in
+    clock-roomy MOST (orbitOf (b .settings)) (b .clock) (omega arith) (omega arith) (p .clock)
+
+module _ (b : Board) (kit : Kit) (own : kit ≡ kitOf (b .settings)) where
+  pub turn-asked : soundBoard b ≡ true → (SlotRoom (kit .slots)) × (b .turn .holder ≤ 8)
+  unfolding kitOf
+  turn-asked e = let p = sound-parts b e in (rw own (slot-room (b .settings) (p .checks)), holder-most _ (b .turn) (p .turn))
+
+  pub scene-asked : soundBoard b ≡ true → (kit .rules ≡ rulesOf (b .settings)) × (kit .blocks ≡ warnBlocksOf (b .settings)) × (Sensible (kit .rules))
+  unfolding kitOf
+  scene-asked e = (rw own, rw own, rw own (sensible (b .settings) (sound-parts b e .checks)))
+
+-- ---- what their answers make
+
+module _ (b : Board) (rec : List ℕ) where
+  pub scene-is : (turn : Turn) (number : ℕ) (scene : Scene) → turn ≡ turnIn b (markerIn rec) → number ≡ numberOf (b .clock) (markerIn rec)
+      → scene ≡ sceneAt b number (turn .holder) → scene ≡ sceneOf b (markerIn rec)
+  unfolding sceneOf
+  scene-is turn number scene t n s = s ∙ rw (t, n)
+
+  pub row-is : (bytes shown row rows old : List ℕ) → bytes ≡ eight byteOf b rec → shown ≡ eight shownOf b rec → row ≡ crossingRow bytes shown
+      → rows ≡ row ++ drop 12 old → rows ≡ rowCrossed b rec ++ drop 12 old
+  unfolding rowCrossed
+  row-is bytes shown row rows old y s r e = e ∙ rw (r, y, s)
+
+module _ (b : Board) (rec : List ℕ) (kit : Kit) (own : kit ≡ kitOf (b .settings)) where
+  pub turn-is : (ends : Bool) (turn : Turn) → ends ≡ orbitEnds (b .clock) (markerIn rec) → turn ≡ turnedOf (kit .slots) ends (b .turn)
+      → turn ≡ turnIn b (markerIn rec)
+  unfolding kitOf turnIn
+  turn-is ends turn e t = t ∙ rw (e, own)
+
+  pub classes-is : (got : List ℕ) → length rec ≡ 24 → Coded (codesIn rec) → got ≡ voted (kit .merger) (take 21 (drop 3 rec)) 40
+      → got ≡ classes (b .settings) (codesIn rec)
+  unfolding kitOf
+  classes-is got long good e = e ∙ rw (own, codes-lent rec long) (one-pass (b .settings) (codesIn rec) good)
+
+  pub eight-is : {A : Type 0} (f : Plan → Scene → List ℕ → ℕ → ℕ → Ptc → A) (scene : Scene) (got : List ℕ) (all : List A)
+      → scene ≡ sceneOf b (markerIn rec) → got ≡ classes (b .settings) (codesIn rec)
+      → all ≡ mapI (f (kit .plan) scene got (getD rec 2 0)) 0 (b .ptcs) → all ≡ eight f b rec
+  unfolding kitOf
+  eight-is f scene got all s g e = e ∙ rw (own, s, g)
+
+  pub board-is : (next r : Board) (ptcs : List Ptc) (bytes : List ℕ) (after : Clock) (turn : Turn) (carried : Bool)
+      → ptcs ≡ eight ptcOf b rec → bytes ≡ eight byteOf b rec → turn ≡ turnIn b (markerIn rec)
+      → next ≡ withPtcs b ptcs → after ≡ clockOf (kit .orbit) (b .clock) (markerIn rec) bytes → carried ≡ carries bytes
+      → r ≡ passedOn next after turn carried → r ≡ boardCrossed b rec
+  unfolding kitOf boardCrossed
+  board-is next r ptcs bytes after turn carried p y t n a k e = e ∙ rw (n, a, k, p, y, t, own)

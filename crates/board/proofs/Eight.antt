@@ -1,0 +1,54 @@
+-- One turn of the loop over the eight: what the calls answered is what the definitions say of controller k.
+-- `acted` puts the calls together; the others read a part off.
+use mathlib.Core.Path.{_≡_, _∙_}
+use mathlib.Core.Bool.{Bool, true}
+use mathlib.Core.List.{List}
+use Prim.Native.Nat.{ℕ, _<_}
+use native.Mathlib.Nat.{zero-add}
+use native.Mathlib.Omega.{arith}
+use lib.Dec.{eqb}
+use lib.ListN.{length, getD}
+use Rattle.laws.proofs.All.{alli-get}
+use Rattle.states.specs.Names.{statusOf}
+use Rattle.ptc.specs.declared.Ptc.{Ptc}
+use Rattle.ptc.specs.declared.Plan.{Plan}
+use Rattle.ptc.specs.declared.Scene.{Scene}
+use Rattle.ptc.specs.declared.Crossed.{Crossed}
+use Rattle.ptc.specs.Room.{Room}
+use Rattle.ptc.specs.Sound.{soundPtc}
+use Rattle.ptc.specs.Crossing.{crossedOf}
+use Rattle.ptc.proofs.Keeps.{roomy}
+use Rattle.ptc.proofs.Triggers.{code-fits}
+use Rattle.records.specs.Records.{askedIn}
+use Rattle.records.specs.Rows.{rowByte}
+use Rattle.records.specs.Refusal.{MOST}
+use Rattle.board.specs.Crossing.{actOf, byteOf, shownOf}
+use Rattle.board.specs.Command.{freshPtc}
+use Rattle.board.specs.Sound.{soundEight}
+
+module _ (plan : Plan) (scene : Scene) (classes : List ℕ) (requests k : ℕ) (p : Ptc) (o : Crossed) where
+  pub acted : (asked : Bool) → asked ≡ askedIn requests k → o ≡ crossedOf plan scene k (getD classes k 0) asked p
+      → o ≡ actOf plan scene classes requests k p
+  unfolding actOf
+  acted asked a e = e ∙ rw a
+
+  pub acted-byte : (r : ℕ) → o ≡ actOf plan scene classes requests k p → r ≡ rowByte (o .code) (o .sent) (o .cal)
+      → r ≡ byteOf plan scene classes requests k p
+  unfolding byteOf
+  acted-byte r e h = h ∙ rw e
+
+  pub acted-shown : (r : ℕ) → o ≡ actOf plan scene classes requests k p → r ≡ statusOf (o .ptc .state)
+      → r ≡ shownOf plan scene classes requests k p
+  unfolding shownOf
+  acted-shown r e h = h ∙ rw e
+
+  pub acted-code : o ≡ actOf plan scene classes requests k p → o .code < 16
+  unfolding actOf
+  acted-code e = rw e (omega (arith, code-fits plan scene k (getD classes k 0) (askedIn requests k) p))
+
+-- a sound controller's counts have room for one more
+pub room-at : (holder m : ℕ) (ps : List Ptc) (k : ℕ) → m < MOST → soundEight holder m ps ≡ true → k < length ps → Room (getD ps k freshPtc)
+unfolding soundEight
+room-at holder m ps k h e l =
+    roomy k (eqb k holder) m (getD ps k freshPtc) (omega arith)
+    (rw zero-add at (alli-get (λ (k : ℕ) (p : Ptc). soundPtc k (eqb k holder) m p) 0 ps k freshPtc e l))

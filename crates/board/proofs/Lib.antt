@@ -1,0 +1,7 @@
+pub mod Settled
+pub mod Eight
+pub mod Crossings
+pub mod Cut
+pub mod Keeps
+pub mod Turn
+pub mod Answers
