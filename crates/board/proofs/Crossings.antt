@@ -7,8 +7,8 @@ use Prim.Native.Nat.{ℕ, suc, _≤_, _<_}
 use native.Mathlib.Omega.{arith}
 use borrow.Author.Tests.{lt-ltb}
 use lib.Dec.{ltb}
-use lib.ListN.{length, getD, take, drop, length-drop}
-use lib.Seq.{getD-drop, take-all}
+use lib.ListN.{length, getD, drop, length-drop}
+use lib.Seq.{getD-drop}
 use Rattle.laws.specs.Base.{allB, mapI}
 use Rattle.laws.proofs.Bools.{and-yes}
 use Rattle.settings.specs.Names.{orbitOf, rulesOf, warnBlocksOf}
@@ -28,10 +28,10 @@ use Rattle.states.proofs.Keeps.{status-low}
 use Rattle.ptc.specs.declared.Ptc.{Ptc}
 use Rattle.ptc.specs.declared.Plan.{Plan}
 use Rattle.ptc.specs.declared.Scene.{Scene}
-use Rattle.records.specs.Records.{isCrossing, well, markerIn, codesIn}
+use Rattle.records.specs.Records.{well, markerIn, codesIn}
 use Rattle.records.specs.Rows.{carries, crossingRow}
 use Rattle.records.specs.Refusal.{MOST}
-use Rattle.records.proofs.Laws.{crossing-kind}
+use Rattle.records.proofs.Laws.{code-low}
 use Rattle.board.specs.declared.Board.{Board}
 use Rattle.board.specs.declared.Kit.{Kit}
 use Rattle.board.specs.Kit.{kitOf}
@@ -41,14 +41,11 @@ use Rattle.board.proofs.Settled.{sound-parts, slot-room, sensible, orbi
 
 -- ---- what the calls ask
 
--- the codes of a well-formed crossing's record, as code lends them
-pub codes-lent : (rec : List ℕ) → length rec ≡ 24 → take 21 (drop 3 rec) ≡ codesIn rec
-codes-lent rec long = take-all 21 (drop 3 rec) (rw length-drop (omega arith))
-
-pub coded : (rec : List ℕ) → length rec ≡ 24 → well rec ≡ true → isCrossing rec ≡ true → ((n : ℕ) → getD rec n 0 < 256) → Coded (codesIn rec)
-coded rec long w k bytes = record {
+-- the codes of a well-formed record
+pub coded : (rec : List ℕ) → length rec ≡ 24 → well rec ≡ true → ((n : ℕ) → getD rec n 0 < 256) → Coded (codesIn rec)
+coded rec long w bytes = record {
   long = rw length-drop (omega arith);
-  gtfe = rw (getD-drop 3 rec 0 0) (omega (arith, crossing-kind rec w k));
+  gtfe = rw (getD-drop 3 rec 0 0) (omega (arith, code-low rec long w));
   bytes = λ n. rw (getD-drop 3 rec n 0) (bytes _);
 }
 
@@ -56,11 +53,10 @@ coded rec long w k bytes = record {
 status-fits : (s : ℕ) → ltb (statusOf s) 16 ≡ true
 status-fits s = lt-ltb (statusOf s) 16 (omega (arith, status-low s))
 
-pub shown-low : (plan : Plan) (scene : Scene) (codes : List ℕ) (requests i : ℕ) (ps : List Ptc)
-    → allB (λ s. ltb s 16) (mapI (shownOf plan scene codes requests) i ps) ≡ true
-unfolding allB mapI shownOf
-shown-low plan scene codes requests i [] = refl
-shown-low plan scene codes requests i (p ∷ ps) = and-yes _ _ (status-fits _) (shown-low plan scene codes requests (suc i) ps)
+pub shown-low : (g : ℕ → Ptc → ℕ) (i : ℕ) (ps : List Ptc) → allB (λ s. ltb s 16) (mapI (λ k p. statusOf (g k p)) i ps) ≡ true
+unfolding allB mapI
+shown-low g i [] = refl
+shown-low g i (p ∷ ps) = and-yes _ _ (status-fits _) (shown-low g (suc i) ps)
 
 pub clock-room : (b : Board) → soundBoard b ≡ true → ClockRoom (b .clock)
 clock-room b e =
@@ -96,10 +92,9 @@ module _ (b : Board) (rec : List ℕ) (kit : Kit) (own : kit ≡ kitOf (b .setti
   unfolding kitOf turnIn
   turn-is ends turn e t = t ∙ rw (e, own)
 
-  pub classes-is : (got : List ℕ) → length rec ≡ 24 → Coded (codesIn rec) → got ≡ voted (kit .merger) (take 21 (drop 3 rec)) 40
-      → got ≡ classes (b .settings) (codesIn rec)
+  pub classes-is : (got : List ℕ) → Coded (codesIn rec) → got ≡ voted (kit .merger) (codesIn rec) 40 → got ≡ classes (b .settings) (codesIn rec)
   unfolding kitOf
-  classes-is got long good e = e ∙ rw (own, codes-lent rec long) (one-pass (b .settings) (codesIn rec) good)
+  classes-is got good e = e ∙ rw own (one-pass (b .settings) (codesIn rec) good)
 
   pub eight-is : {A : Type 0} (f : Plan → Scene → List ℕ → ℕ → ℕ → Ptc → A) (scene : Scene) (got : List ℕ) (all : List A)
       → scene ≡ sceneOf b (markerIn rec) → got ≡ classes (b .settings) (codesIn rec)

@@ -3,5 +3,6 @@ pub mod Eight
 pub mod Crossings
 pub mod Cut
 pub mod Keeps
+pub mod Calm
 pub mod Turn
 pub mod Answers

@@ -1,6 +1,7 @@
 pub mod Kit
 pub mod Crossing
 pub mod Command
+pub mod Still
 pub mod Run
 pub mod Sound
 pub mod Fresh

@@ -1,5 +1,6 @@
 // The board: settings, clock, slot, eight controllers and marks, through one crossing, one command and one block of records.
 mod sound;
+mod still;
 
 use answer::Answer;
 use clock::Clock;
@@ -9,6 +10,7 @@ use ptc::Plan;
 use ptc::Ptc;
 use ptc::Scene;
 use records::RECORD;
+use records::ROW;
 use settings::Rules;
 use settings::Settings;
 use settings::Waits;
@@ -26,7 +28,8 @@ ghost use Rattle.settings.specs.Check.{checked};
 ghost use Rattle.throttle.specs.Rules.{Sensible};
 ghost use Rattle.clock.specs.Room.{ClockRoom};
 ghost use Rattle.records.specs.Refusal.{MOST};
-ghost use Rattle.records.specs.Records.{well, isCrossing, firstIll, crossingsIn};
+ghost use Rattle.status.specs.Merge.{classes as classesOf};
+ghost use Rattle.records.specs.Records.{well, isCrossing, codesIn, firstIll, crossingsIn};
 ghost use Rattle.board.specs.Kit.{slotsOf, planOf, kitOf};
 ghost use Rattle.board.specs.Crossing.{withPtcs, sceneAt, ptcOf, byteOf, shownOf, clockOf, passedOn, boardCrossed, rowCrossed};
 ghost use Rattle.board.specs.Command.{freshPtc, boardCommanded, rowCommanded};
@@ -252,15 +255,14 @@ impl Board {
     }
 
     // Number, merge, moves, cycles and triggers, marks, the row: document 01's order.
-    fn crossing(self, kit: Kit, rec: &[u8], rows: &mut [u8]) -> Board
-        requires { ⌜ (soundBoard self ≡ true) × (kit ≡ kitOf (self .settings)) × (length (now rec) ≡ 24) × (well (now rec) ≡ true) × (isCrossing (now rec) ≡ true) × (self .clock .crossings < MOST) × (12 ≤ length (now rows)) ⌝ }
+    fn crossing(self, kit: Kit, classes: [u8; 8], rec: &[u8], rows: &mut [u8]) -> Board
+        requires { ⌜ (soundBoard self ≡ true) × (kit ≡ kitOf (self .settings)) × (classes ≡ classesOf (self .settings) (codesIn (now rec))) × (length (now rec) ≡ 24) × (well (now rec) ≡ true) × (isCrossing (now rec) ≡ true) × (self .clock .crossings < MOST) × (12 ≤ length (now rows)) ⌝ }
         ensures { λ r. ⌜ (r ≡ boardCrossed self (now (rec .entry))) × (now (rows .exit) ≡ rowCrossed self (now (rec .entry)) ++ drop 12 (now (rows .entry))) ⌝ }
     {
         let marker = rec[1] == 1;
         let clock = self.clock;
         let turn = self.turn.turned(&kit.slots, clock.ends_orbit(marker));
         let scene = self.scene(kit.rules, kit.blocks, clock.number(marker), turn.holder);
-        let classes = kit.merger.merge(&rec[3..24]);
         let mut bytes = [0u8; 8];
         let mut shown = [0u8; 8];
         let next = self.act(kit.plan, scene, classes, rec[2], &mut bytes, &mut shown);
@@ -283,33 +285,57 @@ impl Board {
         self
     }
 
-    fn step(self, kit: Kit, rec: &[u8], rows: &mut [u8]) -> Board
-        requires { ⌜ (soundBoard self ≡ true) × (kit ≡ kitOf (self .settings)) × (length (now rec) ≡ 24) × (well (now rec) ≡ true) × (isCrossing (now rec) ≡ true → self .clock .crossings < MOST) × (12 ≤ length (now rows)) ⌝ }
+    fn step(self, kit: Kit, classes: [u8; 8], rec: &[u8], rows: &mut [u8]) -> Board
+        requires { ⌜ (soundBoard self ≡ true) × (kit ≡ kitOf (self .settings)) × (classes ≡ classesOf (self .settings) (codesIn (now rec))) × (length (now rec) ≡ 24) × (well (now rec) ≡ true) × (isCrossing (now rec) ≡ true → self .clock .crossings < MOST) × (12 ≤ length (now rows)) ⌝ }
         ensures { λ r. ⌜ (r ≡ stepped self (now (rec .entry))) × (now (rows .exit) ≡ rowOf self (now (rec .entry)) ++ drop 12 (now (rows .entry))) ⌝ }
     {
         if rec[0] == 0 {
-            return self.crossing(kit, rec, rows);
+            return self.crossing(kit, classes, rec, rows);
         }
         self.command(kit.plan.waits, rec, rows)
     }
 
-    // n records that are not refused, each answered by a row where the last row ended.
-    fn run(self, log: &[u8], n: usize, rows: &mut [u8]) -> Board
+    // n records that are not refused, each answered by a row where the last row ended. While all eight are at rest, a plain
+    // crossing is done here: handing the board on by value would cost more than the crossing.
+    fn run(mut self, log: &[u8], n: usize, rows: &mut [u8]) -> Board
         requires { ⌜ (soundBoard self ≡ true) × (length (now log) ≡ 24 * n) × (12 * n ≤ length (now rows)) × (firstIll n (now log) ≡ n) × (self .clock .crossings + crossingsIn n (now log) ≤ MOST) ⌝ }
         ensures { λ r. ⌜ (r ≡ ran n self (now (log .entry))) × (now (rows .exit) ≡ rowsOf n self (now (log .entry)) ++ drop (12 * n) (now (rows .entry))) ⌝ }
     {
         let kit = Kit::of(self.settings);
-        let mut b = self;
+        let mut classes = [0u8; 8];
+        let mut row = [0u8; 12];
+        let mut calm = false;
         let mut i: usize = 0;
         while i < n {
-            b = b.step(
-                kit,
-                &log[RECORD * i..RECORD * i + RECORD],
-                &mut rows[records::ROW * i..],
-            );
+            let clock = self.clock;
+            let done = clock.crossings;
+            let holder = self.turn.holder;
+            let at = RECORD * i;
+            if still::is_still(calm, kit.plan.at, clock.next, holder, log, i) {
+                let h = holder as usize;
+                let p = self.ptcs[h];
+                let asked = log[at + 2] != 0;
+                let warn = p.state == 8;
+                let free = still::free_if(asked, &self.marks, kit.rules, kit.blocks, done, warn);
+                let scene = still::lone_scene(clock.next, holder, free);
+                let o = p.rested(kit.plan, scene, holder, asked);
+                let q = o.ptc;
+                self.ptcs[h] = q;
+                throttle::pass(&mut self.marks, done, mark_of(o.sent));
+                self.clock = clock.ticked(kit.orbit, false);
+                still::put_still(&mut rows[ROW * i..], row, h, o.sent);
+                i += 1;
+                continue;
+            }
+            let merged = still::classes_at(kit.merger, classes, log, i);
+            classes = merged;
+            self = self.step(kit, classes, &log[at..at + RECORD], &mut rows[ROW * i..]);
             i += 1;
+            calm = self.is_calm(classes, still::is_followed(log, i, n));
+            let quiet = self.still_row(calm);
+            row = quiet;
         }
-        b
+        self
     }
 
     // BOARD, LENGTH, ROOM, RECORD, LIFE, in that order.

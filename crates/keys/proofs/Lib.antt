@@ -1,2 +1,3 @@
 mod Places
 pub mod Parts
+pub mod Writing

@@ -1,23 +1,31 @@
 -- Every key that a text of the desk may have, by its place in the one table of byte strings.
 use Prim.Native.Nat.{ℕ}
-use mathlib.Core.List.{List, []}
+use mathlib.Core.List.{List, [], _++_}
 use lib.ListN.{getD}
 use Rattle.text.specs.Lines.{keysOf}
 use Rattle.keys.specs.Settings.{table}
+use Rattle.keys.specs.Report.{commonKeys, blockKeys}
 
 unfoldable pub keys : List (List ℕ)
-unfolding table
-keys = keysOf table
+unfolding table commonKeys blockKeys
+keys = keysOf table ++ (commonKeys ++ blockKeys)
 
 unfoldable pub keyAt : ℕ → List ℕ
 keyAt n = getD keys n []
 
 abbrev pub keyCount : ℕ
-keyCount = 71
+keyCount = 88
+
+-- where the report's keys begin
+abbrev pub commonFirst : ℕ
+commonFirst = 71
+
+abbrev pub blockFirst : ℕ
+blockFirst = 75
 
 -- how long they are together, each with its `=`
 abbrev pub keyBytes : ℕ
-keyBytes = 539
+keyBytes = 697
 
 -- no line of a key and a u64 is longer
 abbrev pub lineMost : ℕ

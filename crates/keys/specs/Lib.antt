@@ -1,4 +1,5 @@
 pub mod Settings
+pub mod Report
 pub mod Keys
 pub mod Places
 pub mod Spans

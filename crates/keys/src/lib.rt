@@ -1,15 +1,15 @@
-// The one table of fixed byte strings: every key of the settings text, each with its `=`, lent in parts to readers and writers.
+// The one table of fixed byte strings: every key of the settings text and of the report, each with its `=`, lent in parts to readers and writers.
 ghost use mathlib.Core.Path.{_≡_};
-ghost use Prim.Native.Nat.{_+_, _<_, _≤_};
-ghost use lib.ListN.{length};
+ghost use Prim.Native.Nat.{_+_, _*_, _<_, _≤_};
+ghost use lib.ListN.{length, drop};
 ghost use Rattle.text.specs.Bytes.{put};
-ghost use Rattle.text.specs.Lines.{head, row};
+ghost use Rattle.text.specs.Lines.{head, row, linesText};
 ghost use Rattle.text.specs.Seen.{LineIs};
 ghost use Rattle.keys.specs.Keys.{keys, keyAt, keyCount, lineMost};
 ghost use Rattle.keys.specs.Places.{startOf};
 ghost use Rattle.keys.specs.Spans.{SpanIs};
 
-const KEYS: [u8; 539] = *b"orbit=gap_low=gap_high=\
+const KEYS: [u8; 697] = *b"orbit=gap_low=gap_high=\
     r1_gap=r2_period=r2_norm=r2_low=r3_period=r3_norm=r3_low=r4_period=r4_norm=r4_low=\
     warn_blocks=ignore_disc=ignore_bad=settle_resync=settle_hard=recover_resync=recover_hard=\
     slot0=slot1=slot2=slot3=slot4=slot5=slot6=slot7=\
@@ -17,10 +17,13 @@ const KEYS: [u8; 539] = *b"orbit=gap_low=gap_high=\
     part0=part1=part2=part3=part4=part5=part6=part7=part8=part9=\
     part10=part11=part12=part13=part14=part15=part16=part17=part18=part19=\
     part20=part21=part22=part23=part24=part25=part26=part27=part28=part29=\
-    part30=part31=";
+    part30=part31=\
+    crossings=orbit=bc_errors=holder=\
+    ptc=state=requested=accepted=lost_state=lost_slot=lost_gap=lost_cal=lost_throttle=\
+    cal_requested=cal_accepted=cal_lost=events=";
 
 // Where each key begins, and where the last ends.
-const STARTS: [usize; 72] = [
+const STARTS: [usize; 89] = [
     0,
     6,
     14,
@@ -93,6 +96,23 @@ const STARTS: [usize; 72] = [
     525,
     532,
     539,
+    549,
+    555,
+    565,
+    572,
+    576,
+    582,
+    592,
+    601,
+    612,
+    622,
+    631,
+    640,
+    654,
+    668,
+    681,
+    690,
+    697,
 ];
 
 // The part of `KEYS` that is one key with its `=`.
@@ -147,4 +167,32 @@ pub fn line_length(n: usize, v: u64) -> usize
 {
     let key = span_of(n);
     key.end - key.start + text::width(v) + 1
+}
+
+// Lays the lines of the keys from `first` on, one for each value, and answers the place after them.
+pub fn put_lines(out: &mut [u8], at: usize, first: usize, values: &[u64]) -> usize
+    requires { ⌜ (first + length (now values) ≤ keyCount) × (at + length (linesText (drop first keys) (now values)) ≤ length (now out)) ⌝ }
+    ensures { λ r. ⌜ (r ≡ at + length (linesText (drop first keys) (now (values .entry)))) × (now (out .exit) ≡ put (now (out .entry)) at (linesText (drop first keys) (now (values .entry)))) ⌝ }
+{
+    let mut place = at;
+    let mut n = 0;
+    while n < values.len() {
+        place = put_line(out, place, first + n, values[n]);
+        n += 1;
+    }
+    place
+}
+
+// How long those lines are.
+pub fn lines_length(first: usize, values: &[u64]) -> usize
+    requires { ⌜ first + length (now values) ≤ keyCount ⌝ }
+    ensures { λ r. ⌜ (r ≡ length (linesText (drop first keys) (now (values .entry)))) × (r ≤ lineMost * length (now (values .entry))) ⌝ }
+{
+    let mut sum: usize = 0;
+    let mut n = 0;
+    while n < values.len() {
+        sum += line_length(first + n, values[n]);
+        n += 1;
+    }
+    sum
 }

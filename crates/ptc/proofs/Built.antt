@@ -1,10 +1,10 @@
 -- A controller after a crossing or a command, put together from what its parts' functions answered, is what the definition says.
 -- Each answer is replaced by its definition, the last one first.
 use mathlib.Core.Path.{_≡_}
-use mathlib.Core.Bool.{Bool, _&&_}
-use Prim.Native.Nat.{ℕ}
+use mathlib.Core.Bool.{Bool, false, _&&_}
+use Prim.Native.Nat.{ℕ, _+_}
 use lib.Dec.{eqb}
-use Rattle.laws.specs.Base.{if}
+use Rattle.laws.specs.Base.{if, one}
 use Rattle.settings.specs.declared.names.Waits.{Waits}
 use Rattle.states.specs.declared.Moved.{Moved}
 use Rattle.states.specs.Moves.{entryWait, movedOf, orbitCode}
@@ -18,6 +18,7 @@ use Rattle.ptc.specs.declared.counts.Calibrations.{Calibrations}
 use Rattle.ptc.specs.Cycle.{keptOf, openedOf, cycleCode, asksOf}
 use Rattle.ptc.specs.Counts.{noCounts, requestedOf, calibratedOf, countedOf, fateOf}
 use Rattle.ptc.specs.Crossing.{freeIn, codeOf, eventsOf, crossedOf}
+use Rattle.ptc.specs.Rest.{restedOf}
 use Rattle.ptc.specs.Command.{ledPtc}
 
 pub counted-is : (asked : Bool) (fate : ℕ) (asks free : Bool) (c : Counts) {r : Counts} {cal : Calibrations}
@@ -58,3 +59,22 @@ pub crossed-is : (plan : Plan) (scene : Scene) (k class : ℕ) (asked : Bool) (p
 unfolding crossedOf
 crossed-is plan scene k class asked p moves keeps opens asking frees falls passing sends calibrates counting leaves adds orbiting cycling coding =
     rw (coding, cycling, orbiting, adds, leaves, counting, calibrates, sends, passing, falls, frees, asking, opens, keeps, moves)
+
+pub rested-is : (plan : Plan) (scene : Scene) (k : ℕ) (asked : Bool) (p : Ptc) {fate new orbit : ℕ} {free passes sent : Bool} {counts : Counts}
+    → free ≡ freeIn scene (p .state)
+    → fate ≡ fateOf (plan .gap) (scene .number) (p .state) (eqb k (scene .holder)) 0 free
+    → passes ≡ eqb fate 0
+    → sent ≡ (asked && passes)
+    → counts ≡ requestedOf asked fate (p .counts)
+    → new ≡ one sent
+    → orbit ≡ orbitCode (plan .at) (scene .number)
+    → _≡_ {A = Crossed}
+    (record {
+      ptc = record { state = p .state; wait = p .wait; cycle = p .cycle; counts = counts; events = p .events + new };
+      code = orbit;
+      sent = sent;
+      cal = false;
+    })
+    (restedOf plan scene k asked p)
+unfolding restedOf
+rested-is plan scene k asked p frees falls passing sends counting adds orbiting = rw (orbiting, adds, counting, sends, passing, falls, frees)

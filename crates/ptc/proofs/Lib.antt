@@ -4,3 +4,4 @@ pub mod Balance
 pub mod Cycles
 pub mod Keeps
 pub mod Triggers
+pub mod Rest

@@ -130,7 +130,7 @@ impl Counts {
         }
     }
 
-    fn with_request(self, asked: bool, fate: u8) -> Counts
+    pub fn with_request(self, asked: bool, fate: u8) -> Counts
         requires { ⌜ CountsRoom self ⌝ }
         ensures { λ r. ⌜ r ≡ requestedOf asked fate self ⌝ }
     {

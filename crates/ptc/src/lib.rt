@@ -21,6 +21,7 @@ ghost use Rattle.laws.specs.Base.{if};
 ghost use Rattle.ptc.specs.Counts.{noCounts};
 ghost use Rattle.ptc.specs.Room.{Room};
 ghost use Rattle.ptc.specs.Crossing.{freeIn, codeOf, eventsOf, crossedOf};
+ghost use Rattle.ptc.specs.Rest.{atRest, restedOf};
 ghost use Rattle.ptc.specs.Command.{armedPtc, ledPtc, commandedOf};
 
 pub struct Ptc {
@@ -148,6 +149,51 @@ impl Ptc {
             code: code_of(step.code, orbit, cycle_code(at, number, before, cycle)),
             sent: sent,
             cal: cal,
+        }
+    }
+
+    // Whether a crossing leaves the controller where it is: no wait, no cycle, and a state that stays.
+    pub fn is_at_rest(self, class: u8) -> bool
+        ensures { λ r. ⌜ r ≡ atRest class self ⌝ }
+    {
+        if self.wait != 0 {
+            return false;
+        }
+        if self.cycle != 0 {
+            return false;
+        }
+        states::rests(class, self.state)
+    }
+
+    // A crossing of a controller at rest: only a request changes it.
+    pub fn rested(self, plan: Plan, scene: Scene, k: u32, asked: bool) -> Crossed
+        requires { ⌜ Room self ⌝ }
+        ensures { λ r. ⌜ r ≡ restedOf plan scene k asked self ⌝ }
+    {
+        let number = scene.number;
+        let free = scene.free_in(self.state);
+        let fate = counts::fate(
+            plan.gap,
+            number,
+            self.state,
+            k == scene.holder,
+            cycle::NONE,
+            free,
+        );
+        let sent = both(asked, is_sent(fate));
+        let counts = self.counts.with_request(asked, fate);
+        let ptc = Ptc {
+            state: self.state,
+            wait: self.wait,
+            cycle: self.cycle,
+            counts: counts,
+            events: self.events + counts::one(sent),
+        };
+        Crossed {
+            ptc: ptc,
+            code: states::orbit_code(plan.at, number),
+            sent: sent,
+            cal: false,
         }
     }
 

@@ -2,24 +2,25 @@
 -- Each opens one definition; what speaks of n records is by induction on n.
 use mathlib.Core.Path.{_≡_, refl, ap, ap₂, sym, _∙_}
 use mathlib.Core.Logic.{_⊎_, inl, inr, ⊎-elim}
-use mathlib.Core.Bool.{Bool, true, false, not, _||_}
+use mathlib.Core.Bool.{Bool, true, false, not, _&&_, _||_}
 use mathlib.Core.List.{List, [], _∷_}
 use Prim.Native.Nat.{ℕ, zero, suc, _+_, _-_, _*_, _%_, _≤_, _<_}
-use native.Mathlib.Nat.{add-zero, zero-add}
+use native.Mathlib.Nat.{add-zero, zero-add, not-suc-le-zero}
 use native.Mathlib.Numerals.{add-one}
 use native.Mathlib.Omega.{arith}
 use borrow.Author.Tests.{lt-ltb, le-ltb, leb-true, eqb-true, eqb-false}
 use lib.Dec.{leb, eqb, ltb}
-use lib.ListN.{length, getD, take, drop, length-take, length-drop}
+use lib.ListN.{length, getD, take, drop, length-take, length-drop, List·getD-eq-default}
 use lib.Seq.{ext-getD, getD-take, getD-drop, drop-drop}
-use Rattle.laws.specs.Base.{one, tabulate}
+use Rattle.laws.specs.Base.{one, allB, tabulate}
 use Rattle.laws.proofs.Bools.{both, if-yes, one-le}
 use Rattle.laws.proofs.Tests.{lt-or-ge}
+use Rattle.laws.proofs.All.{all-get}
 use Rattle.laws.proofs.First.{first-all}
 use Rattle.laws.proofs.Over.{length-tabulate, getD-tabulate}
 use Rattle.answer.specs.Told.{DONE, LENGTH, ROOM, RECORD, LIFE}
 use Rattle.answer.proofs.Told.{not-done}
-use Rattle.records.specs.Records.{recAt, isCrossing, wellCrossing, wellCommand, well, firstIll, crossingsIn}
+use Rattle.records.specs.Records.{recAt, isCrossing, codesIn, sameCodes, wellCrossing, wellCommand, well, firstIll, crossingsIn}
 use Rattle.records.specs.Rows.{rowByte, packed, crossingRow, commandRow}
 use Rattle.records.specs.Refusal.{MOST, recordsIn, refusalOf, Ready}
 
@@ -33,9 +34,53 @@ rec-cut log m n = let e : 24 * (m + n) ≡ 24 * m + 24 * n = omega arith in rw (
 pub rec-byte : (log : List ℕ) (i k : ℕ) → k < 24 → getD (recAt log i) k 0 ≡ getD log (24 * i + k) 0
 rec-byte log i k h = getD-take 24 (drop (24 * i) log) k 0 h ∙ getD-drop (24 * i) log k 0
 
+pub rec-bytes : (log : List ℕ) (i n : ℕ) → length (recAt log i) ≡ 24 → ((k : ℕ) → getD log k 0 < 256) → getD (recAt log i) n 0 < 256
+rec-bytes log i n long bytes =
+    ⊎-elim
+    (λ (h : n < 24). rw (rec-byte log i n h) (bytes _))
+    (λ (h : 24 ≤ n). let past : length (recAt log i) ≤ n = rw long h in rw (List·getD-eq-default (recAt log i) 0 past) (omega arith))
+    (lt-or-ge n 24)
+
+-- a turn of the loop that compares the codes of a record with those before it
+pub same-turn : (log : List ℕ) (i k : ℕ) (same r : Bool) → 0 < i → k < 21 → same ≡ sameCodes k (recAt log i) (recAt log (i - 1))
+    → r ≡ same && eqb (getD log (24 * i + 3 + k) 0) (getD log (24 * i - 24 + 3 + k) 0)
+    → r ≡ sameCodes (k + 1) (recAt log i) (recAt log (i - 1))
+unfolding sameCodes
+same-turn log i k same r some h s e =
+    let here : 24 * i + 3 + k ≡ 24 * i + (3 + k) = omega arith in
+    let there : 24 * i - 24 + 3 + k ≡ 24 * (i - 1) + (3 + k) = omega arith in
+    e ∙ rw (add-one, s, here, there, rec-byte log i (3 + k) (omega arith), rec-byte log (i - 1) (3 + k) (omega arith))
+
+-- records that agree in their first n codes
+same-byte : (n : ℕ) (a b : List ℕ) → sameCodes n a b ≡ true → (k : ℕ) → k < n → getD a (3 + k) 0 ≡ getD b (3 + k) 0
+unfolding sameCodes
+same-byte zero a b e k h = absurd (not-suc-le-zero h)
+same-byte (suc n) a b e k h =
+    let w = both (sameCodes n a b) _ e in
+    ⊎-elim
+    (λ (l : k < n). same-byte n a b (w .0) k l)
+    (λ (l : n ≤ k). let z : k ≡ n = omega arith in rw z (eqb-true _ _ (w .1)))
+    (lt-or-ge k n)
+
+pub same-codes : (a b : List ℕ) → length a ≡ 24 → length b ≡ 24 → sameCodes 21 a b ≡ true → codesIn a ≡ codesIn b
+same-codes a b la lb e =
+    let long : length (drop 3 a) ≡ length (drop 3 b) = simp (length-drop, la, lb) in
+    ext-getD 0 (drop 3 a) (drop 3 b) long
+    (λ k h. rw (getD-drop 3 a k 0, getD-drop 3 b k 0) (same-byte 21 a b e k (rw (length-drop, la) at h)))
+
 -- what code lends of a block for record i
 pub lent : (log : List ℕ) (i : ℕ) → take (24 * i + 24 - 24 * i) (drop (24 * i) log) ≡ recAt log i
 lent log i = let e : 24 * i + 24 - 24 * i ≡ 24 = omega arith in rw e
+
+first-codes : (l : List ℕ) → take 21 (drop 3 l) ≡ drop 3 (take 24 l)
+first-codes [] = refl
+first-codes (a ∷ []) = refl
+first-codes (a ∷ b ∷ []) = refl
+first-codes (a ∷ b ∷ c ∷ l) = refl
+
+-- and for its codes
+pub codes-lent : (log : List ℕ) (i : ℕ) → take (24 * i + 24 - (24 * i + 3)) (drop (24 * i + 3) log) ≡ codesIn (recAt log i)
+codes-lent log i = let e : 24 * i + 24 - (24 * i + 3) ≡ 21 = omega arith in rw (e, ← drop-drop 3 (24 * i) log) (first-codes (drop (24 * i) log))
 
 -- where no record is found ill-formed, each is well formed
 pub well-at : (n : ℕ) (log : List ℕ) → firstIll n log ≡ n → (i : ℕ) → i < n → well (recAt log i) ≡ true
@@ -120,30 +165,35 @@ crossing-facts rec e =
     let marker = both (leb (getD rec 1 0) 1) (leb (getD rec 3 0) 15) (kind .1) in
     (eqb-true _ _ (kind .0), leb-true _ _ (marker .0), leb-true _ _ (marker .1))
 
-command-facts : (rec : List ℕ) → wellCommand rec ≡ true → (getD rec 0 0 ≡ 1) × (getD rec 1 0 ≤ 7) × (1 ≤ getD rec 2 0) × (getD rec 2 0 ≤ 6)
+command-facts : (rec : List ℕ) → wellCommand rec ≡ true
+    → (getD rec 0 0 ≡ 1) × (getD rec 1 0 ≤ 7) × (1 ≤ getD rec 2 0) × (getD rec 2 0 ≤ 6) × (allB (λ b. eqb b 0) (drop 3 rec) ≡ true)
 unfolding wellCommand
 command-facts rec e =
     let kind = both (eqb (getD rec 0 0) 1) _ e in
     let ptc = both (leb (getD rec 1 0) 7) _ (kind .1) in
     let low = both (leb 1 (getD rec 2 0)) _ (ptc .1) in
     let high = both (leb (getD rec 2 0) 6) _ (low .1) in
-    (eqb-true _ _ (kind .0), leb-true _ _ (ptc .0), leb-true _ _ (low .0), leb-true _ _ (high .0))
+    (eqb-true _ _ (kind .0), leb-true _ _ (ptc .0), leb-true _ _ (low .0), leb-true _ _ (high .0), high .1)
 
 -- byte 0 tells which
-pub crossing-kind : (rec : List ℕ) → well rec ≡ true → isCrossing rec ≡ true → (getD rec 1 0 ≤ 1) × (getD rec 3 0 ≤ 15)
-crossing-kind rec w k =
-    let zero-kind : getD rec 0 0 ≡ 0 = eqb-true _ _ k in
-    ⊎-elim
-    (λ (e : wellCrossing rec ≡ true). omega (arith, crossing-facts rec e))
-    (λ (e : wellCommand rec ≡ true). omega (arith, command-facts rec e))
-    (well-kind rec w)
-
 pub command-kind : (rec : List ℕ) → well rec ≡ true → isCrossing rec ≡ false
     → (getD rec 0 0 ≡ 1) × (getD rec 1 0 ≤ 7) × (1 ≤ getD rec 2 0) × (getD rec 2 0 ≤ 6)
 command-kind rec w k =
     ⊎-elim
     (λ (e : wellCrossing rec ≡ true). absurd (eqb-false _ _ k (crossing-facts rec e .0)))
-    (λ (e : wellCommand rec ≡ true). command-facts rec e)
+    (λ (e : wellCommand rec ≡ true). let f = command-facts rec e in (f .0, f .1, f .2, f .3))
+    (well-kind rec w)
+
+-- either way the GTFE code is a nibble: the codes of a command are 0
+pub code-low : (rec : List ℕ) → length rec ≡ 24 → well rec ≡ true → getD rec 3 0 ≤ 15
+code-low rec long w =
+    ⊎-elim
+    (λ (e : wellCrossing rec ≡ true). crossing-facts rec e .2)
+    (λ (e : wellCommand rec ≡ true).
+    let some : 0 < length (drop 3 rec) = rw length-drop (omega arith) in
+    let none : getD (drop 3 rec) 0 0 ≡ 0 = eqb-true _ _ (all-get (λ b. eqb b 0) (drop 3 rec) 0 0 (command-facts rec e .4) some) in
+    let byte : getD rec 3 0 ≡ 0 = sym (getD-drop 3 rec 0 0) ∙ none in
+    omega arith)
     (well-kind rec w)
 
 -- what a row's byte says

@@ -8,12 +8,13 @@ pub use rows::crossing_row;
 pub use rows::put_row;
 pub use rows::row_byte;
 ghost use mathlib.Core.Path.{_≡_};
-ghost use Prim.Native.Nat.{_*_, _≤_, _<_};
+ghost use mathlib.Core.Bool.{_&&_};
+ghost use Prim.Native.Nat.{_+_, _-_, _*_, _≤_, _<_};
 ghost use lib.Dec.{eqb};
 ghost use lib.ListN.{length, drop};
 ghost use Rattle.laws.specs.Base.{one, allB};
 ghost use Rattle.answer.specs.Told.{told};
-ghost use Rattle.records.specs.Records.{askedIn, wellCrossing, wellCommand, well, firstIll, crossingsIn};
+ghost use Rattle.records.specs.Records.{recAt, askedIn, sameCodes, wellCrossing, wellCommand, well, firstIll, crossingsIn};
 ghost use Rattle.records.specs.Refusal.{MOST, refusalOf};
 
 pub const RECORD: usize = 24;
@@ -29,6 +30,28 @@ pub fn asked(requests: u8, k: usize) -> bool
     ensures { λ r. ⌜ r ≡ askedIn requests k ⌝ }
 {
     (requests as u64 >> k as u64) % 2 == 1
+}
+
+fn both(a: bool, b: bool) -> bool
+    ensures { λ r. ⌜ r ≡ (a && b) ⌝ }
+{
+    a && b
+}
+
+// Whether record i has the codes of the one before it. It looks at all of them, so that the compiler compares them at once.
+pub fn repeats(log: &[u8], i: usize) -> bool
+    requires { ⌜ (0 < i) × (24 * i + 24 ≤ length (now log)) ⌝ }
+    ensures { λ r. ⌜ r ≡ sameCodes 21 (recAt (now (log .entry)) i) (recAt (now (log .entry)) (i - 1)) ⌝ }
+{
+    let at = RECORD * i;
+    let before = at - RECORD;
+    let mut same = true;
+    let mut k = 0;
+    while k < 21 {
+        same = both(same, log[at + 3 + k] == log[before + 3 + k]);
+        k += 1;
+    }
+    same
 }
 
 fn is_well_crossing(rec: &[u8]) -> bool

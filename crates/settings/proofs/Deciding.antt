@@ -64,15 +64,15 @@ module _ (vs s : List ℕ) (at n : ℕ) (long : length vs ≡ 71) (inv : readLin
 
     pub ill-is : ill ≡ readLine (head (keyAt n)) r (drop at s) → readText s ≡ refused (TEXT (n + 1))
     unfolding readText
-    ill-is e = ap concluded (at-ill table vs s at n noEntry inv here known (rw (entry-key n, entry-range n, ← is) e))
+    ill-is e = ap concluded (at-ill table vs s at n noEntry inv here known (rw (entry-key n more, entry-range n, ← is) e))
 
     pub out-is : out ≡ readLine (head (keyAt n)) r (drop at s) → readText s ≡ refused (RANGE (n + 1))
     unfolding readText
-    out-is e = ap concluded (at-out table vs s at n noEntry inv here known (rw (entry-key n, entry-range n, ← is) e))
+    out-is e = ap concluded (at-out table vs s at n noEntry inv here known (rw (entry-key n more, entry-range n, ← is) e))
 
     pub value-is : (v next : ℕ) → taken v (drop next s) ≡ readLine (head (keyAt n)) r (drop at s)
         → readLines table [] s ≡ readLines (drop (n + 1) table) (take (n + 1) (set vs n v)) (drop next s)
-    value-is v next e = at-value table vs s at n noEntry inv here known v next (rw (entry-key n, entry-range n, ← is) e)
+    value-is v next e = at-value table vs s at n noEntry inv here known v next (rw (entry-key n more, entry-range n, ← is) e)
 
   module _ (done : 71 ≤ n) where
     ended : readText s ≡ concluded (all vs (drop at s))

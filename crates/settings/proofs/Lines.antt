@@ -1,12 +1,13 @@
 -- The table of the settings text at its places: how many lines it has, and which key and which range each has.
 -- Computed from the table; a place of a map of it is the map of that place.
-use mathlib.Core.Path.{_≡_, refl, sym}
+use mathlib.Core.Path.{_≡_, refl, sym, _∙_}
 use mathlib.Core.List.{[]}
-use Prim.Native.Nat.{ℕ}
+use Prim.Native.Nat.{ℕ, _<_}
 use lib.ListN.{length, getD, List·getD-map}
-use Rattle.text.specs.Lines.{Entry, keysOf, rangesOf}
+use Rattle.text.specs.Lines.{Entry, rangesOf}
 use Rattle.keys.specs.Settings.{table}
-use Rattle.keys.specs.Keys.{keys, keyAt}
+use Rattle.keys.specs.Keys.{keyAt}
+use Rattle.keys.proofs.Writing.{settings-key}
 use Rattle.settings.specs.Ranges.{nowhere, rangeAt}
 
 -- past the last line
@@ -17,21 +18,12 @@ pub lines : length table ≡ 71
 unfolding table
 lines = refl
 
-pub keyed : length (keysOf table) ≡ 71
-unfolding table
-keyed = refl
-
 pub ranged : length (rangesOf table) ≡ 71
 unfolding table
 ranged = refl
 
-pub key-of : (n : ℕ) → getD (keysOf table) n [] ≡ keyAt n
-unfolding keyAt keys
-key-of n = refl
-
-pub entry-key : (n : ℕ) → getD table n noEntry .key ≡ keyAt n
-unfolding keyAt keys
-entry-key n = sym (List·getD-map (λ (l : Entry). l .key) table n noEntry)
+pub entry-key : (n : ℕ) → n < 71 → getD table n noEntry .key ≡ keyAt n
+entry-key n h = sym (List·getD-map (λ (l : Entry). l .key) table n noEntry) ∙ settings-key n h
 
 pub entry-range : (n : ℕ) → getD table n noEntry .range ≡ rangeAt n
 unfolding rangeAt

@@ -9,6 +9,7 @@ pub use commands::takes;
 pub use moves::advance;
 pub use moves::entry_wait;
 pub use moves::orbit_code;
+pub use moves::rests;
 pub use sound::is_sound;
 ghost use mathlib.Core.Path.{_≡_};
 ghost use Rattle.states.specs.Names.{statusOf};

@@ -12,6 +12,7 @@ ghost use mathlib.Core.Path.{_≡_};
 ghost use Prim.Native.Nat.{_-_};
 ghost use lib.Dec.{eqb};
 ghost use Rattle.laws.specs.Base.{if};
+ghost use Rattle.states.specs.Rest.{resting};
 ghost use Rattle.states.specs.Moves.{goes, timed, afterResync, whileRunning, whileDisconnected, moveOf, entryWait, movedOf, orbitCode};
 
 fn to(state: u8) -> Step
@@ -70,6 +71,23 @@ fn while_disconnected(class: u8) -> u8
     ensures { λ r. ⌜ r ≡ whileDisconnected class ⌝ }
 {
     if BAD <= class { 9 } else { 6 }
+}
+
+// Whether a state stays as it is, whatever the number, while the class is the same.
+pub fn rests(class: u8, state: u8) -> bool
+    ensures { λ r. ⌜ r ≡ resting class state ⌝ }
+{
+    match state {
+        0 => true,
+        6 => while_running(class) == 6,
+        7 => while_running(class) == 7,
+        8 => while_running(class) == 8,
+        9 => BAD <= class,
+        10 => true,
+        11 => true,
+        18 => true,
+        _ => false,
+    }
 }
 
 fn next_step(at: Schedule, k: u32, number: u32, class: u8, state: u8) -> Step

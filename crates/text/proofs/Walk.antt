@@ -1,9 +1,10 @@
 -- Loops over a table of lines: reading it, laying its text, adding up its length, and finding the first value out of range.
 -- In each, what is left of the table decides as the whole does; a law opens the line at place n. For any table.
-use mathlib.Core.Path.{_≡_, ap, _∙_}
+use mathlib.Core.Path.{_≡_, refl, sym, ap, _∙_}
 use mathlib.Core.Bool.{true, false}
-use mathlib.Core.List.{List, [], _++_}
+use mathlib.Core.List.{List, [], _∷_, _++_}
 use Prim.Native.Nat.{ℕ, suc, _+_, _≤_, _<_}
+use native.Mathlib.Nat.{le-of-suc-le-suc, not-suc-le-zero}
 use native.Mathlib.Numerals.{add-one}
 use native.Mathlib.Omega.{arith}
 use lib.ListN.{length, drop, take, set, getD, length-append, drop-of-length-le}
@@ -47,8 +48,18 @@ module _ (ks : List (List ℕ)) (vs : List ℕ) (n : ℕ) (d : List ℕ) (more :
       → put o at (linesText (drop n ks) (drop n vs)) ≡ put (put o at (row (head (getD ks n d)) (getD vs n 0))) (at + length (row (head (getD ks n d)) (getD vs n 0))) (linesText (drop (n + 1) ks) (drop (n + 1) vs))
   put-more o at room = ap (put o at) text-more ∙ put-append o at _ _ room
 
-pub text-end : (ks : List (List ℕ)) (vs : List ℕ) (n : ℕ) → length ks ≤ n → linesText (drop n ks) vs ≡ []
-text-end ks vs n done = rw (drop-of-length-le ks done)
+text-none : (ks : List (List ℕ)) → linesText ks [] ≡ []
+text-none [] = refl
+text-none (k ∷ ks) = refl
+
+pub text-end : (ks : List (List ℕ)) (vs : List ℕ) (n : ℕ) → length vs ≤ n → linesText (drop n ks) (drop n vs) ≡ []
+text-end ks vs n done = rw (drop-of-length-le vs done) (text-none (drop n ks))
+
+-- keys beyond the values are not written
+pub text-within : (ks more : List (List ℕ)) (vs : List ℕ) → length vs ≤ length ks → linesText (ks ++ more) vs ≡ linesText ks vs
+text-within ks more [] h = text-none (ks ++ more) ∙ sym (text-none ks)
+text-within [] more (v ∷ vs) h = absurd (not-suc-le-zero h)
+text-within (k ∷ ks) more (v ∷ vs) h = ap (λ (t : List ℕ). row (head k) v ++ t) (text-within ks more vs (le-of-suc-le-suc h))
 
 -- ---- ranges
 

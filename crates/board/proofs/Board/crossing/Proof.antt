@@ -6,63 +6,46 @@ use Prim.Native.Nat.{ℕ}
 use borrow.Author.Needs.{needs}
 use lib.ListN.{getD}
 use Rattle.laws.specs.Base.{mapI}
-use Rattle.status.specs.Codes.{Coded}
-use Rattle.status.specs.Merge.{classes}
 use Rattle.ptc.specs.declared.Ptc.{Ptc}
 use Rattle.ptc.specs.declared.Plan.{Plan}
 use Rattle.ptc.specs.declared.Scene.{Scene}
-use Rattle.records.specs.Records.{markerIn, codesIn}
-use Rattle.board.specs.Crossing.{turnIn, sceneOf, ptcOf, byteOf, shownOf, eight}
+use Rattle.records.specs.Records.{markerIn}
+use Rattle.board.specs.Crossing.{turnIn, sceneOf, actOf, ptcOf, byteOf, shownOf, eight}
 use Rattle.board.proofs.Settled.{sound-parts}
-use Rattle.board.proofs.Crossings.{codes-lent, coded, shown-low, clock-room, turn-asked, scene-asked, scene-is, row-is, turn-is, classes-is, eight-is, board-is}
+use Rattle.board.proofs.Crossings.{shown-low, clock-room, turn-asked, scene-asked, scene-is, row-is, turn-is, eight-is, board-is}
 use Rattle.board.proofs.Board.crossing.Statement.{statement}
 use Rattle.board.proofs.Board.crossing.Tie as tie
 
 -- ---- the entry, seen from where each call returned
 
-abbrev turning : tie.After-turned → tie.After-shared-slice-known
-turning c = c .before .before .before .before .before .before .before
+abbrev turning : tie.After-turned → tie.Start
+turning c = c .before .before .before .before .before .before .before .before
 
-abbrev seeing : tie.After-scene → tie.After-shared-slice-known
+abbrev seeing : tie.After-scene → tie.Start
 seeing c = turning (c .before .before .before)
 
-abbrev merging : tie.After-merge → tie.After-shared-slice-known
-merging c = seeing (c .before .before .before)
+abbrev acting : tie.After-act → tie.Start
+acting c = seeing (c .before .before .before .before .before)
 
-abbrev acting : tie.After-act → tie.After-shared-slice-known
-acting c = merging (c .before .before .before .before .before)
+-- ---- what each call answered
 
--- ---- what is known there, and what each call answered
-
-codes-coded : (c : tie.After-shared-slice-known) → Coded (codesIn (c .before .args .rec .now))
-codes-coded c =
-    let p = c .before .pre in
-    coded (c .before .args .rec .now) (p .2) (p .3) (p .4) (λ n. c .shared-slice-known .given n .fits)
-
-turn-told : (c : tie.After-turned) → let a = turning c .before .args in c .turned .result ≡ turnIn (a .self) (markerIn (a .rec .now))
+turn-told : (c : tie.After-turned) → let a = turning c .args in c .turned .result ≡ turnIn (a .self) (markerIn (a .rec .now))
 turn-told c =
-    let s = turning c .before in
+    let s = turning c in
     turn-is (s .args .self) (s .args .rec .now) (s .args .t2) (s .pre .1) _ _ (c .before .ends-orbit .ensures) (c .turned .ensures)
 
-scene-told : (c : tie.After-scene) → let a = seeing c .before .args in c .scene .result ≡ sceneOf (a .self) (markerIn (a .rec .now))
+scene-told : (c : tie.After-scene) → let a = seeing c .args in c .scene .result ≡ sceneOf (a .self) (markerIn (a .rec .now))
 scene-told c =
-    let a = seeing c .before .args in
+    let a = seeing c .args in
     scene-is (a .self) (a .rec .now) _ _ _ (turn-told (c .before .before .before)) (c .before .number .ensures) (c .scene .ensures)
 
-classes-told : (c : tie.After-merge) → let a = merging c .before .args in c .merge .result ≡ classes (a .self .settings) (codesIn (a .rec .now))
-classes-told c =
-    let s = merging c .before in
-    classes-is (s .args .self) (s .args .rec .now) (s .args .t2) (s .pre .1) _ (s .pre .2) (codes-coded (merging c)) (c .merge .ensures)
-
 eight-told : {A : Type 0} (f : Plan → Scene → List ℕ → ℕ → ℕ → Ptc → A) (c : tie.After-act) (all : List A) →
-    let a = acting c .before .args in
-    let m = c .before .before .before .before .before in
-    let v = m .before .before .before in
-    all ≡ mapI (f (a .t2 .plan) (v .scene .result) (m .merge .result) (getD (a .rec .now) 2 0)) 0 (a .self .ptcs) → all ≡ eight f (a .self) (a .rec .now)
+    let a = acting c .args in
+    let v = c .before .before .before .before .before in
+    all ≡ mapI (f (a .t2 .plan) (v .scene .result) (a .classes) (getD (a .rec .now) 2 0)) 0 (a .self .ptcs) → all ≡ eight f (a .self) (a .rec .now)
 eight-told f c all e =
-    let s = acting c .before in
-    let m = c .before .before .before .before .before in
-    eight-is (s .args .self) (s .args .rec .now) (s .args .t2) (s .pre .1) f _ _ all (scene-told (m .before .before .before)) (classes-told m) e
+    let s = acting c in
+    eight-is (s .args .self) (s .args .rec .now) (s .args .t2) (s .pre .1) f _ _ all (scene-told (c .before .before .before .before .before)) (s .pre .2) e
 
 -- ---- the needs
 
@@ -82,22 +65,8 @@ number-requires c κs = search needs
 
 scene-requires : tie.Need-scene-requires
 scene-requires c κs =
-    let s = turning (c .before .before) .before in
+    let s = turning (c .before .before) in
     scene-asked (s .args .self) (s .args .t2) (s .pre .1) (s .pre .0)
-
-sub-merge : tie.Need-sub-merge
-sub-merge c = search needs
-
-part-merge-start : tie.Need-part-merge-start
-part-merge-start c = search needs
-
-part-merge-end : tie.Need-part-merge-end
-part-merge-end c = search needs
-
-merge-requires : tie.Need-merge-requires
-merge-requires c κs =
-    let k = seeing (c .before .before) in
-    rw (codes-lent (k .before .args .rec .now) (k .before .pre .2)) (codes-coded k)
 
 shared-slice-read-act : tie.Need-shared-slice-read-act
 shared-slice-read-act c = search needs
@@ -110,17 +79,18 @@ slice-aggregate-act-2 c = search needs
 
 act-requires : tie.Need-act-requires
 act-requires c κs =
-    let s = merging (c .before .before .before .before) .before in
-    (sound-parts (s .args .self) (s .pre .0) .eight, s .pre .5, refl, refl)
+    let s = seeing (c .before .before .before .before) in
+    (sound-parts (s .args .self) (s .pre .0) .eight, s .pre .6, refl, refl)
 
 crossing-row-requires : tie.Need-crossing-row-requires
-crossing-row-requires c κs = rw (c .before .before .before .act .ensures .2) (shown-low _ _ _ _ 0 _)
+unfolding shownOf
+crossing-row-requires c κs = rw (c .before .before .before .act .ensures .2) (shown-low (λ k p. actOf _ _ _ _ k p .ptc .state) 0 _)
 
 put-row-requires : tie.Need-put-row-requires
-put-row-requires c κs = acting (c .before .before .before .before) .before .pre .6
+put-row-requires c κs = acting (c .before .before .before .before) .pre .7
 
 clock-after-requires : tie.Need-clock-after-requires
-clock-after-requires c κs = clock-room _ (acting (c .before .before .before .before .before .before .before) .before .pre .0)
+clock-after-requires c κs = clock-room _ (acting (c .before .before .before .before .before .before .before) .pre .0)
 
 carries-requires : tie.Need-carries-requires
 carries-requires c κs = search needs
@@ -128,7 +98,7 @@ carries-requires c κs = search needs
 passed-on-requires : tie.Need-passed-on-requires
 passed-on-requires c κs =
     let a = c .before .before .before .before .before .before .before .before .before in
-    rw (a .act .ensures .0) (acting a .before .pre .5)
+    rw (a .act .ensures .0) (acting a .pre .6)
 
 same-length : tie.Need-same-length
 same-length c = search needs
@@ -137,8 +107,8 @@ returns : tie.Need-returns
 returns c =
     let w = c .before .before .before .before .before in
     let a = w .before .before .before .before .before in
-    let s = acting a .before in
-    let turn = turn-told (a .before .before .before .before .before .before .before .before .before .before .before) in
+    let s = acting a in
+    let turn = turn-told (a .before .before .before .before .before .before .before .before) in
     let e = a .act .ensures in
     let bytes = eight-told byteOf a _ (e .1) in (
       board-is (s .args .self) (s .args .rec .now) (s .args .t2) (s .pre .1) _ _ _ _ _ _ _ (eight-told ptcOf a _ refl) bytes turn
@@ -155,10 +125,6 @@ crossing-spec =
     turned-requires
     number-requires
     scene-requires
-    sub-merge
-    part-merge-start
-    part-merge-end
-    merge-requires
     shared-slice-read-act
     slice-aggregate-act
     slice-aggregate-act-2

@@ -14,7 +14,7 @@ crossing-requires : tie.Need-crossing-requires
 crossing-requires c κs =
     let p = c .before .before .before .before .before .pre in
     let kind = eq-eqb _ _ (c .before .if1 .taken) in
-    (p .0, p .1, p .2, p .3, kind, p .4 kind, p .5)
+    (p .0, p .1, p .2, p .3, p .4, kind, p .5 kind, p .6)
 
 same-length : tie.Need-same-length
 same-length c = search needs
@@ -27,7 +27,7 @@ command-requires : tie.Need-command-requires
 unfolding kitOf
 command-requires c κs =
     let p = c .before .before .before .before .before .pre in
-    (rw (p .1), p .2, p .3, ne-eqb _ _ (c .before .if1 .left), p .5)
+    (rw (p .1), p .3, p .4, ne-eqb _ _ (c .before .if1 .left), p .6)
 
 same-length-2 : tie.Need-same-length-2
 same-length-2 c = search needs

@@ -6,13 +6,13 @@ use native.Mathlib.Omega.{arith}
 use borrow.Author.Needs.{needs}
 use lib.ListN.{length}
 use Rattle.keys.specs.Keys.{lineMost}
-use Rattle.settings.specs.Write.{textOf}
-use Rattle.settings.proofs.Writing.{Left, longer, left-none}
+use Rattle.keys.proofs.Writing.{Left, longer, left-none}
+use Rattle.settings.proofs.Writing.{text-is}
 use Rattle.settings.proofs.Settings.text_length.Statement.{statement}
 use Rattle.settings.proofs.Settings.text_length.Tie as tie
 
 abbrev Inv-loop : tie.InvT-loop
-Inv-loop v n₀ sum₀ n sum = (n ≤ 71) × (length v ≡ 71) × (sum ≤ lineMost * n) × (sum + length (Left v n) ≡ length (Left v 0))
+Inv-loop v n₀ sum₀ n sum = (n ≤ 71) × (length v ≡ 71) × (sum ≤ lineMost * n) × (sum + length (Left 0 v n) ≡ length (Left 0 v 0))
 
 abbrev μ-loop : tie.MeasureT-loop
 μ-loop v n₀ sum₀ n sum = 71 - n
@@ -46,11 +46,12 @@ loop-again c =
     let t = c .before .before in
     let l = t .before in
     let i = l .loop .inv in
-    (omega arith, i .1, omega arith, omega (arith, longer (l .before .before .args .self .values) (l .loop .n) (i .1) (t .loop-test .taken) _ (c .before .wide .ensures)))
+    (omega arith, i .1, omega arith, omega (arith, longer 0 (l .before .before .args .self .values) (l .loop .n) (omega arith) (omega arith) (l .loop .n) (omega arith) _ (c .before .wide .ensures)))
 
 returns : tie.Need-returns Inv-loop μ-loop
-unfolding textOf
-returns c = omega (arith, ap length (left-none (c .before .before .before .args .self .values) (c .before .loop .n) (c .loop-test .left)))
+returns c =
+    let s = c .before .before .before .args .self in
+    omega (arith, ap length (left-none 0 (s .values) (c .before .loop .n) (omega arith)), ap length (text-is s (c .before .loop .inv .1)))
 
 pub text-length-spec : {M : Type 1} → statement M
 text-length-spec =

@@ -1,0 +1,65 @@
+// A bench's files through the desk: the board that a settings text opens, and a log run in blocks of 64 records.
+use answer::Answer;
+use board::Board;
+use board::Made;
+use board::Ran;
+use settings::Settings;
+ghost use mathlib.Core.Path.{_≡_};
+ghost use Prim.Native.Nat.{_*_, _≤_, min};
+ghost use lib.ListN.{length};
+ghost use Rattle.board.specs.Fresh.{madeOut};
+ghost use Rattle.board.specs.Block.{ranOut};
+ghost use Rattle.replay.specs.Replay.{openedOf, blocksIn, inBlocks};
+
+// The bytes of 64 records, and of their rows.
+pub const BLOCK: usize = 1536;
+
+pub const BLOCK_ROWS: usize = 768;
+
+// The fresh board of a settings text, or the first refusal.
+pub fn opened(text: &[u8]) -> Made
+    ensures { λ r. ⌜ madeOut r ≡ openedOf (now (text .entry)) ⌝ }
+{
+    let read = Settings::read(text);
+    let a = read.answer;
+    if a.is_done() {
+        return Board::fresh(read.settings);
+    }
+    let made = Board::fresh(Settings::standard());
+    let board = made.board;
+    Made {
+        answer: a,
+        board: board,
+    }
+}
+
+fn least(a: usize, b: usize) -> usize
+    ensures { λ r. ⌜ r ≡ min a b ⌝ }
+{
+    if a < b { a } else { b }
+}
+
+// The blocks of a log one after the other, each writing its rows where those of the last ended. The first refusal ends it.
+pub fn run_blocks(board: Board, log: &[u8], rows: &mut [u8]) -> Ran
+    requires { ⌜ 768 * blocksIn (now log) ≤ length (now rows) ⌝ }
+    ensures { λ r. ⌜ ranOut r (now (rows .exit)) ≡ inBlocks (blocksIn (now (log .entry))) board (now (log .entry)) (now (rows .entry)) ⌝ }
+{
+    let mut b = board;
+    let mut i: usize = 0;
+    while BLOCK * i < log.len() {
+        let at = BLOCK * i;
+        let end = least(at + BLOCK, log.len());
+        let r = b.block(&log[at..end], &mut rows[BLOCK_ROWS * i..]);
+        let a = r.answer;
+        if !a.is_done() {
+            return r;
+        }
+        let next = r.board;
+        b = next;
+        i += 1;
+    }
+    Ran {
+        answer: Answer::Done,
+        board: b,
+    }
+}

@@ -1,0 +1,123 @@
+#!/usr/bin/env python3
+"""Logs and rows of the desk in a form that a person can write and read.
+
+usage: benchlog.py make LOG.txt > run.rec       the records of a readable log
+       benchlog.py show LOG.txt ROWS.bin        its rows, those that say something, one to a line
+
+A readable log has one word and its details to a line; `#` begins a comment.
+
+    codes all=ready part3=error atts1=warning   from here on; gtfe, part0..part31, atts0..atts7, or a number 0..15
+    cross 100                                   100 crossings with these codes
+    cross 20 ask=0,1                            20 crossings, each with a request to controllers 0 and 1
+    marker ask=0                                one crossing with the orbit marker
+    START 0                                     a command to a controller: START STOP HARD RESYNC CALIBRATE PANIC
+"""
+import sys
+
+CODES = {"disconnected": 0, "warning": 1, "sync": 2, "busy": 4, "ready": 8, "error": 12}
+COMMANDS = ["START", "STOP", "HARD", "RESYNC", "CALIBRATE", "PANIC"]
+STATUS = {10: "idle", 8: "ready", 1: "warning", 0: "disconnected", 2: "out of sync", 12: "error", 4: "busy"}
+SENDS = {1: "BC0", 2: "TE", 5: "RESYNC", 6: "HARD", 7: "EC0", 8: "OC0", 9: "START", 10: "STOP", 11: "GAP", 13: "WTE"}
+
+
+class Codes:
+    def __init__(self):
+        self.of = {name: 8 for name in self.names()}
+
+    @staticmethod
+    def names():
+        return ["gtfe"] + [f"part{n}" for n in range(32)] + [f"atts{n}" for n in range(8)]
+
+    def set(self, word):
+        name, _, value = word.partition("=")
+        code = CODES[value] if value in CODES else int(value)
+        for key in self.names() if name == "all" else [name]:
+            if key not in self.of or not 0 <= code <= 15:
+                raise ValueError(word)
+            self.of[key] = code
+
+    def record(self, marker, requests):
+        """A crossing's 24 bytes: the even input of a pair has the low nibble."""
+        inputs = [self.of[name] for name in self.names()[1:]]
+        pairs = [inputs[n] + 16 * inputs[n + 1] for n in range(0, 40, 2)]
+        return bytes([0, marker, requests, self.of["gtfe"]] + pairs)
+
+
+def requests_of(words):
+    bits = 0
+    for word in words:
+        if not word.startswith("ask="):
+            raise ValueError(word)
+        for k in word[4:].split(","):
+            bits |= 1 << int(k)
+    return bits
+
+
+def records_of(lines):
+    """Each record of a readable log."""
+    codes = Codes()
+    for number, line in enumerate(lines, 1):
+        words = line.split("#")[0].split()
+        if not words:
+            continue
+        try:
+            if words[0] == "codes":
+                for word in words[1:]:
+                    codes.set(word)
+            elif words[0] == "cross":
+                yield from [codes.record(0, requests_of(words[2:]))] * int(words[1])
+            elif words[0] == "marker":
+                yield codes.record(1, requests_of(words[1:]))
+            else:
+                yield bytes([1, int(words[1]), COMMANDS.index(words[0]) + 1] + [0] * 21)
+        except (ValueError, KeyError, IndexError):
+            sys.exit(f"benchlog: line {number}: {line.strip()}")
+
+
+def row_words(row):
+    """What each controller sent, and the statuses."""
+    said = []
+    for k in range(8):
+        parts = [SENDS[row[k] % 16]] if row[k] % 16 else []
+        parts += ["trigger"] if row[k] & 16 else []
+        parts += ["calibration trigger"] if row[k] & 32 else []
+        said += [f"{k} sends {' and '.join(parts)}"] if parts else []
+    shown = [row[8 + k // 2] >> 4 * (k % 2) & 15 for k in range(8)]
+    return said, shown
+
+
+def show(records, rows):
+    if rows[:1] == b"r":
+        sys.exit(rows.decode().strip())
+    crossing, before = 0, None
+    for n, record in enumerate(records):
+        row = rows[12 * n : 12 * n + 12]
+        if record[0] == 1:
+            taken = "taken" if row[0] == 0xF0 else "not taken"
+            print(f"before {crossing}: {COMMANDS[record[2] - 1]} to {record[1]} {taken}")
+            continue
+        said, shown = row_words(row)
+        # Codes BC0 and GAP come in every orbit and from all eight: only what is rarer is worth a line.
+        said = [s for s in said if "sends BC0" != s[2:] and "sends GAP" != s[2:]]
+        for k in range(8):
+            if before is None or before[k] != shown[k]:
+                if before is not None or shown[k] != 10:
+                    said.append(f"{k} shows {STATUS[shown[k]]}")
+        if said:
+            print(f"crossing {crossing}: {'; '.join(said)}")
+        crossing, before = crossing + 1, shown
+
+
+def main():
+    if len(sys.argv) == 3 and sys.argv[1] == "make":
+        with open(sys.argv[2], encoding="utf-8") as log:
+            sys.stdout.buffer.write(b"".join(records_of(log)))
+    elif len(sys.argv) == 4 and sys.argv[1] == "show":
+        with open(sys.argv[2], encoding="utf-8") as log, open(sys.argv[3], "rb") as rows:
+            show(records_of(log), rows.read())
+    else:
+        sys.exit(__doc__)
+
+
+if __name__ == "__main__":
+    main()

@@ -1,0 +1,176 @@
+//! The model's own tests: document 01's printed case and worked figures, and some of DESIGN's open points.
+
+use crate::board::{Board, Cycle};
+use crate::merge::{merge, Merged};
+use crate::program::{run, BLOCK, BYTES};
+use crate::report::{report, row};
+use crate::settings::*;
+use std::process::ExitCode;
+
+const PRINTED: &str = "crossings=1\norbit=0\nbc_errors=0\nholder=0\nptc=0\nstate=0\nrequested=1\naccepted=0\nlost_state=1\n\
+    lost_slot=0\nlost_gap=0\nlost_cal=0\nlost_throttle=0\ncal_requested=0\ncal_accepted=0\ncal_lost=0\nevents=0\n";
+
+type Cases = Vec<(&'static str, bool)>;
+
+pub fn check() -> ExitCode {
+    let cases = [figures(), merges(), moves(), cycles(), texts(), blocks()].concat();
+    let failed: Vec<_> = cases.iter().filter(|(_, holds)| !holds).collect();
+    failed.iter().for_each(|(name, _)| println!("failed: {name}"));
+    println!("{} passed, {} failed", cases.len() - failed.len(), failed.len());
+    ExitCode::from(u8::from(!failed.is_empty()))
+}
+
+/// A crossing with every code the same.
+fn crossing(marker: u8, requests: u8, code: u8) -> [u8; BYTES] {
+    let mut record = [code << 4 | code; BYTES];
+    (record[0], record[1], record[2], record[3]) = (0, marker, requests, code);
+    record
+}
+
+/// The standard settings with one line changed.
+fn with(line: usize, value: usize) -> Settings {
+    let mut settings = Settings::standard();
+    settings[line] = value;
+    settings
+}
+
+/// A board past its first crossing with controller 0 in the given state, and the number that it expects.
+fn board(settings: Settings, state: usize, expected: usize) -> Board {
+    let mut board = Board::fresh(settings);
+    (board.crossings, board.expected, board.controllers[0].state) = (10_000, expected, state);
+    board
+}
+
+/// The crossings, from the first on, in which controller 0 sends a trigger, and how many requests it loses to the gap.
+fn sent(first: usize, requests: fn(usize) -> bool, code: fn(usize) -> u8) -> (Vec<usize>, usize) {
+    let mut board = board(Settings::standard(), 7, first);
+    let mut sends = |t: &usize| row(&board.record(&crossing(0, u8::from(requests(*t)), code(*t))))[0] & 0x10 != 0;
+    let sent = (0..400).filter(|t| sends(t)).collect();
+    (sent, board.controllers[0].counts[4])
+}
+
+fn figures() -> Cases {
+    let (to_250, standard): (fn(usize) -> bool, _) = (|t| t <= 250, Settings::standard());
+    let printed = run(standard.write().as_bytes(), &crossing(0, 1, 8), &mut |_, _, _| {}).map(|(board, _)| report(&board));
+    let mut started = Board::fresh(standard);
+    started.command(0, 1);
+    let rows = (0..7430).map(|t| (t, row(&started.record(&crossing(0, 1, 8)))[0]));
+    let codes: Vec<(usize, u8)> = rows.filter(|(_, byte)| ![0, 1, 11].contains(byte)).collect();
+    vec![
+        ("the printed case", printed.as_deref() == Ok(PRINTED)),
+        ("READY", sent(500, to_250, |_| 8).0 == [0, 3, 25, 100, 240, 243]),
+        ("WARN", sent(500, to_250, |_| 1).0 == [0, 25, 240]),
+        ("WARN from t+4", sent(500, to_250, |t| if t < 4 { 8 } else { 1 }).0 == [0, 3, 240]),
+        ("gap", sent(3443, |t| [0, 1, 120, 121].contains(&t), |_| 8) == (vec![0, 121], 2)),
+        ("START", codes == [(100, 5), (3964, 8), (4064, 9), (7428, 7), (7429, 0x10)]),
+    ]
+}
+
+fn merges() -> Cases {
+    let with_11 = |byte: usize, value: u8| {
+        let mut record = crossing(0, 0, 8);
+        record[byte] = value;
+        merge(&Settings::standard(), &record, 0)
+    };
+    let ignoring = |code| merge(&with(IGNORE_DISC, 1), &crossing(0, 0, code), 0);
+    let after_marker = |expected| {
+        let mut board = board(Settings::standard(), 0, expected);
+        board.record(&crossing(1, 0, 8));
+        (board.bc_errors, board.orbit, board.expected)
+    };
+    vec![
+        ("code 11 from partition 23", with_11(15, 0xB8) == Merged::Bad),
+        ("code 11 from partition 24", with_11(16, 0x8B) == Merged::Busy),
+        ("code 11 from the GTFE", with_11(3, 11) == Merged::Bad),
+        ("all disconnected and ignored", ignoring(0) == Merged::None && ignoring(15) == Merged::None),
+        ("marker at expected 5", after_marker(5) == (1, 1, 1)),
+        ("marker at expected 0", after_marker(0) == (0, 1, 1)),
+    ]
+}
+
+/// The next three states of controller 0 after a command, with the given code.
+fn states(settings: Settings, state: usize, expected: usize, command: u8, code: u8) -> Vec<usize> {
+    let mut board = board(settings, state, expected);
+    board.command(0, command);
+    let mut next = |_| {
+        board.record(&crossing(0, 0, code));
+        board.controllers[0].state
+    };
+    (0..3).map(&mut next).collect()
+}
+
+fn moves() -> Cases {
+    let standard = Settings::standard;
+    let taken = |state, command| row(&board(standard(), state, 9).command(0, command))[0] == 0xF0;
+    let mut started = board(standard(), 0, 9);
+    (started.controllers[0].counts, started.controllers[0].events) = ([1; 10], 5);
+    started.command(0, 1);
+    let (counts, events) = (started.controllers[0].counts, started.controllers[0].events);
+    vec![
+        ("RESYNC in state 11", !taken(11, 4) && taken(10, 4)),
+        ("PANIC in state 0", taken(0, 6)),
+        ("a wait of 1 falls at number 0 and moves after it", states(with(SETTLE_RESYNC, 1), 7, 3563, 4, 8) == [15, 15, 16]),
+        ("a wait set just before number 0 falls there", states(with(SETTLE_RESYNC, 1), 7, 0, 4, 8) == [15, 16, 16]),
+        ("a wait of 0 moves in the next crossing", states(with(SETTLE_RESYNC, 0), 7, 9, 4, 8) == [16, 16, 16]),
+        ("state 2 on error", states(standard(), 2, 9, 5, 12) == [18, 18, 18]),
+        ("state 2 on busy", states(standard(), 2, 9, 5, 4) == [3, 3, 3]),
+        ("state 9 leaves through 6", states(standard(), 9, 9, 5, 8) == [6, 7, 7]),
+        ("START clears the counts, not the events", (counts, events) == ([0; 10], 5)),
+    ]
+}
+
+fn cycles() -> Cases {
+    let after_the_slot = |slot1, cycle| {
+        let mut board = board(with(SLOT0 + 1, slot1), 7, 3100);
+        (board.orbits_left, board.controllers[0].cycle) = (1, cycle);
+        board.record(&crossing(1, 0, 8));
+        (board.controllers[0].cycle == cycle, board.holder, board.orbits_left)
+    };
+    let mut board = board(with(GAP_LOW, 3563), 7, 2999);
+    board.command(0, 5);
+    let rows: Vec<u8> = (2999..3500).map(|_| row(&board.record(&crossing(0, 1, 8)))[0]).collect();
+    let counts = board.controllers[0].counts;
+    vec![
+        ("a lone controller keeps its open cycle", after_the_slot(0, Cycle::Open) == (true, 0, 2550)),
+        ("losing the slot drops an open cycle", after_the_slot(3, Cycle::Open) == (false, 1, 30)),
+        ("an armed cycle survives the loss", after_the_slot(3, Cycle::Armed) == (true, 1, 30)),
+        ("a whole cycle", (rows[0], rows[1], rows[401], rows[491]) == (0x10, 13, 2, 0x20)),
+        ("requests from at_wte to at_cal are lost to cal", counts[5..] == [491, counts[6], 1, 1, 0]),
+        ("events count both kinds", board.controllers[0].events == counts[1] + 1),
+    ]
+}
+
+fn texts() -> Cases {
+    let standard = Settings::standard().write();
+    let refused = |from: &str, to: &str| Settings::read(standard.replace(from, to).as_bytes()).err();
+    let cut = |bytes: usize| Settings::read(&standard.as_bytes()[..bytes]).err();
+    let unordered = with(AT_TE, 3491).write();
+    vec![
+        ("the standard text", standard.lines().count() == 71 && cut(standard.len()).is_none()),
+        ("r2_period 63", refused("r2_period=25", "r2_period=63").is_none()),
+        ("r2_period 64", refused("r2_period=25", "r2_period=64") == Some((RANGE, 5))),
+        ("five digits", refused("orbit=3564", "orbit=99999") == Some((RANGE, 1))),
+        ("six digits", refused("orbit=3564", "orbit=003564") == Some((TEXT, 1))),
+        ("text that stops early", cut(0) == Some((TEXT, 1)) && cut(standard.len() - 1) == Some((TEXT, 71))),
+        ("the first faulty line decides", refused("r1_gap=2\nr2_period=25", "r1_gap=8\nr2_period=+") == Some((RANGE, 4))),
+        ("relation 4", Settings::read(unordered.as_bytes()).err() == Some((RELATION, 4))),
+        ("the tail comes before relations", Settings::read((unordered + "\n").as_bytes()).err() == Some((TEXT, 72))),
+        ("relation 2 before 4", refused("at_te=3400", "at_te=3564") == Some((RELATION, 2))),
+    ]
+}
+
+fn blocks() -> Cases {
+    let text = Settings::standard().write().into_bytes();
+    let good: Vec<u8> = crossing(0, 1, 8).repeat(65);
+    let mut spoilt = good.clone();
+    (spoilt[3 * BYTES], spoilt[BLOCK]) = (2, 2);
+    let late = [&good[..BLOCK], &spoilt[BLOCK..]].concat();
+    let refused = |log: &[u8]| run(&text, log, &mut |_, _, _| {}).err();
+    vec![
+        ("no log and a whole one", refused(&[]).is_none() && refused(&good).is_none()),
+        ("a broken tail after 64 records", refused(&good[..BLOCK + 5]) == Some((LENGTH, 0))),
+        ("LENGTH before RECORD in a block", refused(&spoilt[..BLOCK - 1]) == Some((LENGTH, 0))),
+        ("RECORD in a block before the broken tail", refused(&spoilt[..BLOCK + 1]) == Some((RECORD, 3))),
+        ("the index counts within the block", refused(&late) == Some((RECORD, 0))),
+    ]
+}

@@ -1,0 +1,147 @@
+//! How often a range of seeds meets each thing that document 01 names.
+
+use crate::board::{Board, Cycle, Did, Done, THROTTLE};
+use crate::generate::{generate, KINDS};
+use crate::merge::{class, ignored, members, Merged};
+use crate::program::run;
+use crate::settings::{Refusal, RELATION, TEXT};
+
+/// Groups of rows with their items, counted by place; a dash is a place that cannot come.
+const GROUPS: [(&str, &str); 18] = [
+    ("state", "0 1 2 3 4 5 6 7 8 9 10 11 12 13 14 15 16 17 18 19"),
+    ("merged", "none ready warning busy out_of_sync error bad disconnected"),
+    ("ignored", "bad disconnected"),
+    ("code_11", "below_24 from_24 no_partition"),
+    ("lost", "state slot gap cal throttle"),
+    ("sent", "READY WARN calibration"),
+    ("code", "- 1 2 - - 5 6 7 8 9 10 11 - 13"),
+    ("first_in_READY", "- rule_1 rule_2 rule_3 rule_4"),
+    ("first_in_WARN", "warn_blocks rule_1 rule_2 rule_3 rule_4"),
+    ("cal_lost", "warn_blocks rule_1 rule_2 rule_3 rule_4"),
+    ("taken", "- START STOP HARD RESYNC CALIBRATE PANIC"),
+    ("not_taken", "- START STOP HARD RESYNC CALIBRATE -"),
+    ("dropped", "move command slot"),
+    ("kept", "armed_without_slot open_to_itself"),
+    ("hand_over", "to_another to_itself orbit_with_holder_8"),
+    ("zero", "free marker_expected marker_elsewhere"),
+    ("refused", "- TEXT RANGE RELATION - LENGTH - RECORD TEXT_tail"),
+    ("relation", "- 1 2 3 4 5"),
+];
+
+#[derive(Default)]
+struct Table([[u64; 20]; GROUPS.len()]);
+
+/// The table over the seeds of a kind, or of all kinds, or nothing for an unknown kind.
+pub fn cover(kind: &str, from: usize, to: usize) -> Option<String> {
+    let mut table = Table::default();
+    for kind in KINDS.iter().filter(|known| kind == "all" || kind == **known) {
+        for seed in from..=to {
+            let (text, log) = generate(kind, seed)?;
+            if let Err(refusal) = run(&text, &log, &mut |board, record, done| table.record(board, record, done)) {
+                table.refusal(refusal);
+            }
+        }
+    }
+    (kind == "all" || KINDS.contains(&kind)).then(|| table.rows())
+}
+
+impl Table {
+    fn add(&mut self, group: &str, item: usize) {
+        let place = GROUPS.iter().position(|(name, _)| *name == group).expect("a group of the table");
+        self.0[place][item] += 1;
+    }
+
+    fn rows(&self) -> String {
+        let mut rows = String::new();
+        for ((group, items), counts) in GROUPS.iter().zip(self.0) {
+            for (item, count) in items.split(' ').zip(counts).filter(|(item, _)| *item != "-") {
+                rows += &format!("{group}_{item} {count}\n");
+            }
+        }
+        rows
+    }
+
+    fn refusal(&mut self, refusal: Refusal) {
+        self.add("refused", refusal.0);
+        match refusal {
+            (RELATION, number) => self.add("relation", number),
+            (TEXT, 72) => self.add("refused", 8),
+            _ => {}
+        }
+    }
+
+    fn record(&mut self, board: &Board, record: &[u8], done: &Done) {
+        match done {
+            Done::Command { command, taken, dropped } => {
+                self.add(if *taken { "taken" } else { "not_taken" }, usize::from(*command));
+                if *dropped {
+                    self.add("dropped", 1);
+                }
+            }
+            Done::Crossing { .. } => {
+                self.crossing(board, done);
+                (0..8).for_each(|n| self.members(board, record, n));
+            }
+        }
+    }
+
+    fn members(&mut self, board: &Board, record: &[u8], n: usize) {
+        for (code, partition) in members(&board.settings, record, n).filter(|(code, _)| *code != 8) {
+            let class = class(code, partition);
+            if ignored(&board.settings, class) {
+                self.add("ignored", usize::from(class == Merged::Disconnected));
+            }
+            if code == 11 {
+                self.add("code_11", [24, 32].iter().filter(|&&first| partition >= first).count());
+            }
+        }
+    }
+
+    fn crossing(&mut self, board: &Board, done: &Done) {
+        let Done::Crossing { marker, expected, number, handed, did } = done else { return };
+        if *number == 0 {
+            self.add("zero", usize::from(*marker) + usize::from(*expected != 0));
+        }
+        match handed {
+            Some((last, next)) => self.add("hand_over", usize::from(last == next)),
+            None if *number == 0 && board.holder == 8 => self.add("hand_over", 2),
+            None => {}
+        }
+        for (n, did) in did.iter().enumerate() {
+            self.add("state", did.state);
+            self.add("merged", did.merged as usize);
+            if did.code > 0 {
+                self.add("code", usize::from(did.code));
+            }
+            let running = did.state == 7 || did.state == 8;
+            match (did.had, did.keeps, handed) {
+                (Cycle::Armed | Cycle::Open, Cycle::None, _) if !running => self.add("dropped", 0),
+                (Cycle::Open, Cycle::None, Some((last, next))) if *last == n && last != next => self.add("dropped", 2),
+                (Cycle::Armed, Cycle::Armed, Some((last, next))) if *last == n && last != next => self.add("kept", 0),
+                (Cycle::Open, Cycle::Open, Some(_)) => self.add("kept", 1),
+                _ => {}
+            }
+            self.asked(did);
+        }
+    }
+
+    fn asked(&mut self, did: &Did) {
+        match did.request {
+            Some(Ok(())) => self.add("sent", usize::from(did.state == 8)),
+            Some(Err(lost)) => self.add("lost", (lost as usize).min(THROTTLE)),
+            None => {}
+        }
+        match did.calibration {
+            Some(Ok(())) => self.add("sent", 2),
+            Some(Err(lost)) => self.add("cal_lost", lost as usize - THROTTLE),
+            None => {}
+        }
+        match did.calibration.or(did.request) {
+            Some(Err(lost)) if lost as usize >= THROTTLE => {
+                let limits = if did.state == 8 { "first_in_WARN" } else { "first_in_READY" };
+                self.add(limits, lost as usize - THROTTLE);
+            }
+            _ => {}
+        }
+    }
+}

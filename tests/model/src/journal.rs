@@ -1,0 +1,192 @@
+//! Valid logs. A board runs along, so that commands and markers fall where they do something.
+
+use crate::board::{Board, Cycle};
+use crate::generate::Random;
+use crate::program::BYTES;
+use crate::settings::{Settings, AT_BC0, AT_CAL};
+
+#[rustfmt::skip]
+#[derive(Clone, Copy, PartialEq)]
+pub enum Manner { Lively, Edge, Standard }
+
+/// A stretch of the log with one habit. Requests: one byte (0 for any) once in so many crossings; commands, bad markers:
+/// once in so many records. 0 is never.
+struct Stretch {
+    records: usize,
+    codes: [u8; BYTES],
+    flicker: bool,
+    requests: (u8, usize),
+    commands: usize,
+    bad_markers: usize,
+}
+
+struct Journal<'a> {
+    random: &'a mut Random,
+    board: Board,
+    log: Vec<u8>,
+    manner: Manner,
+    /// A marker comes once in so many expected zeros (0: never), and at the latest at this expected number.
+    good_markers: usize,
+    latest: usize,
+    markers_to_come: usize,
+}
+
+/// A crossing with no marker, no request and every code 8.
+const READY: [u8; BYTES] = {
+    let mut record = [0x88; BYTES];
+    (record[0], record[1], record[2], record[3]) = (0, 0, 0, 8);
+    record
+};
+
+pub fn log(random: &mut Random, settings: &Settings, manner: Manner, records: usize) -> Vec<u8> {
+    let good_markers = random.pick(&[0, 1, 1, 2]);
+    let last_at = (AT_BC0..=AT_CAL).map(|line| settings[line]).max().unwrap_or(0);
+    let (records, latest) = match manner {
+        Manner::Edge if random.once_in(3) => (records + 2 * last_at, 4096),
+        Manner::Edge => (records + 2 * last_at, last_at + 1 + random.below(20)),
+        _ => (records, 4096),
+    };
+    let (board, log) = (Board::fresh(settings.clone()), Vec::new());
+    let mut journal = Journal { random, board, log, manner, good_markers, latest, markers_to_come: 0 };
+    journal.before_the_first_crossing();
+    while journal.log.len() < BYTES * records {
+        let stretch = journal.stretch();
+        for _ in 0..stretch.records.min(records - journal.log.len() / BYTES) {
+            journal.next(&stretch);
+        }
+    }
+    journal.log
+}
+
+impl Journal<'_> {
+    fn record(&mut self, record: [u8; BYTES]) {
+        self.board.record(&record);
+        self.log.extend(record);
+    }
+
+    fn command(&mut self, n: usize, command: u8) {
+        let mut record = [0; BYTES];
+        (record[0], record[1], record[2]) = (1, n as u8, command);
+        self.record(record);
+    }
+
+    fn before_the_first_crossing(&mut self) {
+        for _ in 0..self.random.below(6) {
+            let (n, command) = (self.random.below(8), 1 + self.random.below(6) as u8);
+            self.command(n, command);
+        }
+        self.command(0, 6);
+        self.command(0, 1);
+        for n in 1..8 {
+            if !self.random.once_in(4) {
+                self.command(n, 1);
+            }
+        }
+    }
+
+    fn next(&mut self, stretch: &Stretch) {
+        if self.random.once_in(stretch.commands) {
+            return self.fitting_command();
+        }
+        let mut record = stretch.codes;
+        if stretch.flicker {
+            self.trouble(&mut record);
+        }
+        record[1] = u8::from(self.marker(stretch.bad_markers));
+        if self.random.once_in(stretch.requests.1) {
+            record[2] = if stretch.requests.0 == 0 { self.random.below(256) as u8 } else { stretch.requests.0 };
+        }
+        self.record(record);
+    }
+
+    /// A third of the stretches is long and steady with dense requests, in the others much changes.
+    fn stretch(&mut self) -> Stretch {
+        let steady = self.manner == Manner::Standard || self.random.once_in(3);
+        let codes = self.codes(steady);
+        let holder = 1 << self.board.holder.min(7);
+        let random = &mut *self.random;
+        if steady {
+            let requests = (random.pick(&[0xFF, 0xFF, 0, holder]), random.pick(&[1, 1, 1, 3, 30]));
+            let (records, commands) = (150 + random.below(700), random.pick(&[0, 25]));
+            return Stretch { records, codes, flicker: false, requests, commands, bad_markers: 0 };
+        }
+        let requests = (random.pick(&[0, 0xFF]), random.pick(&[0, 1, 1, 2, 5, 20]));
+        let (records, commands) = (10 + random.below(250), random.pick(&[8, 25, 100]));
+        Stretch { records, codes, flicker: random.once_in(6), requests, commands, bad_markers: random.pick(&[0, 0, 400, 60]) }
+    }
+
+    /// Mostly all ready or a few warnings; under standard settings nothing else, and warnings only after READY.
+    fn codes(&mut self, steady: bool) -> [u8; BYTES] {
+        let mut codes = READY;
+        match self.random.below(if self.manner == Manner::Standard { 6 } else { 11 }) {
+            _ if self.manner == Manner::Standard && self.board.crossings < 7430 => {}
+            0..=3 => {}
+            4..=6 => (0..3).for_each(|_| set_code(&mut codes, self.random.below(41), 1)),
+            7..=9 if !steady => (0..2).for_each(|_| self.trouble(&mut codes)),
+            7..=9 => set_code(&mut codes, 40, 1),
+            _ => {
+                let code = self.random.pick(&[0, 15, 3, 9, 11, 1, 2, 4, 12]);
+                (0..41).for_each(|member| set_code(&mut codes, member, code));
+            }
+        }
+        codes
+    }
+
+    fn trouble(&mut self, codes: &mut [u8; BYTES]) {
+        let any = self.random.below(16) as u8;
+        let code = self.random.pick(&[0, 15, 1, 1, 1, 4, 2, 12, 11, any]);
+        let any = self.random.below(41);
+        let member = if code == 11 { self.random.pick(&[23, 24, any]) } else { any };
+        set_code(codes, member, code);
+    }
+
+    /// Mostly a command that is taken in the controller's state and leads on; the holder's turn comes most often.
+    fn fitting_command(&mut self) {
+        let holds = self.board.holder < 8 && !self.random.once_in(3);
+        let n = if holds { self.board.holder } else { self.random.below(8) };
+        let any = 1 + self.random.below(6) as u8;
+        let command = match self.board.controllers[n].state {
+            _ if self.manner == Manner::Standard && n == 0 => 5,
+            _ if self.random.once_in(12) => any,
+            0 => 1,
+            7 | 8 => self.random.pick(&[5, 5, 5, 5, 5, 5, 5, 5, 5, 5, 5, 5, 5, 5, 1, 2, 3, 4]),
+            9 => self.random.pick(&[1, 3, 5]),
+            10 => self.random.pick(&[4, 4, 3, 2]),
+            11 => self.random.pick(&[3, 3, 4, 2]),
+            18 => self.random.pick(&[4, 3, 2]),
+            _ => self.random.pick(&[1, 5]),
+        };
+        self.command(n, command);
+    }
+
+    /// Runs of markers let long waits and slots pass, and take the slot away while a cycle is open.
+    fn marker(&mut self, bad_markers: usize) -> bool {
+        if self.markers_to_come > 0 {
+            self.markers_to_come -= 1;
+            return true;
+        }
+        let Board { controllers, orbits_left, holder, expected, .. } = &self.board;
+        let wait = controllers.iter().map(|controller| controller.wait).max().unwrap_or(0);
+        let open = controllers.iter().any(|controller| controller.cycle == Cycle::Open);
+        let long_slot = *orbits_left > 99 && (7..=8).contains(&controllers[*holder].state);
+        match self.manner {
+            Manner::Edge if wait > 4 && self.random.once_in(30) => self.markers_to_come = wait,
+            Manner::Edge if long_slot && self.random.once_in(700) => self.markers_to_come = *orbits_left,
+            Manner::Edge | Manner::Lively if open && self.random.once_in(60) => self.markers_to_come = 21,
+            _ => {}
+        }
+        match *expected {
+            0 => self.random.once_in(self.good_markers),
+            expected => expected >= self.latest || self.random.once_in(bad_markers),
+        }
+    }
+}
+
+/// Members 0 to 31 are the partitions, 32 to 39 the aTTS codes, which follow them in the record, 40 is the GTFE code.
+fn set_code(record: &mut [u8; BYTES], member: usize, code: u8) {
+    match member {
+        40 => record[3] = code,
+        _ if member % 2 == 0 => record[4 + member / 2] = record[4 + member / 2] & 0xF0 | code,
+        _ => record[4 + member / 2] = record[4 + member / 2] & 0x0F | code << 4,
+    }
+}

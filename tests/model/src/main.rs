@@ -1,0 +1,63 @@
+//! An independent model of document 01 (the trigger desk), to test the product against. See README.md.
+
+mod board;
+mod check;
+mod cover;
+mod damage;
+mod generate;
+mod journal;
+mod merge;
+mod program;
+mod report;
+mod settings;
+mod trigger;
+
+use std::io::Write;
+use std::process::ExitCode;
+use std::{env, fs};
+
+const USAGE: &str = "model report DIR | rows DIR | generate KIND SEED DIR | cover KIND|all FROM TO | check";
+
+fn main() -> ExitCode {
+    let arguments: Vec<String> = env::args().skip(1).collect();
+    let arguments: Vec<&str> = arguments.iter().map(String::as_str).collect();
+    let output = match arguments[..] {
+        ["report", dir] => Some(run(dir, |board, _| report::report(board).into_bytes())),
+        ["rows", dir] => Some(run(dir, |_, rows| rows)),
+        ["generate", kind, seed, dir] => seed.parse().ok().and_then(|seed| generate(kind, seed, dir)),
+        ["cover", kind, from, to] => cover(kind, from, to),
+        ["check"] => return check::check(),
+        _ => None,
+    };
+    match output {
+        Some(bytes) if std::io::stdout().write_all(&bytes).is_ok() => ExitCode::SUCCESS,
+        Some(_) => ExitCode::FAILURE,
+        None => {
+            eprintln!("{USAGE}");
+            ExitCode::from(2)
+        }
+    }
+}
+
+/// "A program reads `board.set` and `run.rec` (one that can't be opened reads as empty) and prints the report, or
+/// `refused=N` and a newline with the first refusal's number and nothing else."
+fn run(dir: &str, print: fn(&board::Board, Vec<u8>) -> Vec<u8>) -> Vec<u8> {
+    let text = fs::read(format!("{dir}/board.set")).unwrap_or_default();
+    let log = fs::read(format!("{dir}/run.rec")).unwrap_or_default();
+    match program::run(&text, &log, &mut |_, _, _| {}) {
+        Ok((board, rows)) => print(&board, rows),
+        Err((number, _)) => format!("refused={number}\n").into_bytes(),
+    }
+}
+
+fn generate(kind: &str, seed: usize, dir: &str) -> Option<Vec<u8>> {
+    let (text, log) = generate::generate(kind, seed)?;
+    fs::create_dir_all(dir).expect("the folder can be made");
+    fs::write(format!("{dir}/board.set"), text).expect("board.set can be written");
+    fs::write(format!("{dir}/run.rec"), log).expect("run.rec can be written");
+    Some(Vec::new())
+}
+
+fn cover(kind: &str, from: &str, to: &str) -> Option<Vec<u8>> {
+    Some(cover::cover(kind, from.parse().ok()?, to.parse().ok()?)?.into_bytes())
+}
