@@ -1,0 +1,51 @@
+-- `board_cases::say_rows` is safe and ends: the place never passes the rows' end, which is within the buffer.
+-- What is left of the rows is the measure.
+use Prim.Native.Nat.{_-_, _≤_}
+use borrow.Author.Needs.{needs}
+use Rattle.board_cases.proofs.say_rows.Statement.{statement}
+use Rattle.board_cases.proofs.say_rows.Tie as tie
+
+abbrev Inv-loop : tie.InvT-loop
+Inv-loop rows end k₀ k = k ≤ end
+
+abbrev μ-loop : tie.MeasureT-loop
+μ-loop rows end k₀ k = end - k
+
+loop-holds : tie.Need-loop-holds Inv-loop μ-loop
+loop-holds c = search needs
+
+say-gap-requires : tie.Need-say-gap-requires Inv-loop μ-loop
+say-gap-requires c κs = search needs
+
+shared-slice-read-say-byte : tie.Need-shared-slice-read-say-byte Inv-loop μ-loop
+shared-slice-read-say-byte c = search needs
+
+say-byte-requires : tie.Need-say-byte-requires Inv-loop μ-loop
+say-byte-requires c κs = search needs
+
+add-k : tie.Need-add-k Inv-loop μ-loop
+add-k c = search needs
+
+loop-less : tie.Need-loop-less Inv-loop μ-loop
+loop-less c = search needs
+
+loop-again : tie.Need-loop-again Inv-loop μ-loop
+loop-again c = search needs
+
+returns : tie.Need-returns Inv-loop μ-loop
+returns c = search needs
+
+pub say-rows-spec : {M : Type 1} → statement M
+say-rows-spec =
+    tie.close
+    (tie.spec
+    Inv-loop
+    μ-loop
+    loop-holds
+    say-gap-requires
+    shared-slice-read-say-byte
+    say-byte-requires
+    add-k
+    loop-less
+    loop-again
+    returns)

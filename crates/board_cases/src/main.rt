@@ -1,0 +1,368 @@
+// Sets up boards and logs as standard input tells, runs blocks over them, and prints what each call answered and left.
+// A line is a letter and up to four numbers. `#` prints the line. `n` begins a fresh board and an empty log. `s i v` sets a
+// setting, `v f v` a value of the clock or the slot, `p k f v` one of a controller, `m i v` a word of marks. `a kind b1 b2 b3`
+// adds a record, a crossing having every code 8; `z at v` sets a byte of the log, `l n` its length. `b room` runs the log as
+// a block with a rows buffer of that length, and goes on with the board that it leaves. `f` makes a fresh board of the settings.
+mod boards;
+
+use answer::Answer;
+use board::Board;
+use boards::are_same_settings;
+use boards::byte;
+use boards::is_same;
+use boards::set_clock;
+use boards::set_mark;
+use boards::set_ptc;
+use boards::set_setting;
+use libc::STDIN_FILENO;
+use libc::STDOUT_FILENO;
+use settings::Settings;
+ghost use mathlib.Core.Path.{_≡_};
+ghost use Prim.Native.Nat.{_+_, _<_, _≤_, min};
+ghost use lib.ListN.{length};
+
+// The log that the lines have made: the first `long` bytes.
+struct Log {
+    bytes: [u8; 960],
+    long: usize,
+}
+
+// A line's letter, or 0, and its numbers.
+struct Words {
+    letter: u8,
+    a: u64,
+    b: u64,
+    c: u64,
+    d: u64,
+}
+
+fn say(text: &[u8]) {
+    io::write_all(STDOUT_FILENO, text);
+}
+
+fn end_line() {
+    say(b"\n");
+}
+
+fn say_number(before: &[u8], n: u64) {
+    io::write_all(STDOUT_FILENO, before);
+    io::print_decimal(STDOUT_FILENO, n);
+}
+
+fn say_carried(value: usize) {
+    say_number(b" carries ", value as u64);
+}
+
+fn say_answer(a: Answer) {
+    say_number(b"answer ", a.number());
+    match a {
+        Answer::Done => {}
+        Answer::Text(line) => say_carried(line),
+        Answer::Range(line) => say_carried(line),
+        Answer::Relation(which) => say_carried(which),
+        Answer::Board => {}
+        Answer::Length => {}
+        Answer::Room(needed) => say_carried(needed),
+        Answer::Record(index) => say_carried(index),
+        Answer::Life => {}
+    }
+}
+
+// Where the line that begins at a place ends, before its newline.
+fn line_end(text: &[u8], at: usize) -> usize
+    requires { ⌜ at ≤ length (now text) ⌝ }
+    ensures { λ r. ⌜ (at ≤ r) × (r ≤ length (now (text .entry))) ⌝ }
+{
+    let mut end = at;
+    while end < text.len() {
+        if text[end] == 10 {
+            return end;
+        }
+        end += 1;
+    }
+    end
+}
+
+// The place after a newline, or the text's end.
+fn after(text: &[u8], end: usize) -> usize
+    requires { ⌜ end ≤ length (now text) ⌝ }
+    ensures { λ r. ⌜ r ≡ min (end + 1) (length (now (text .entry))) ⌝ }
+{
+    if end < text.len() { end + 1 } else { end }
+}
+
+// One digit more, of at most 18, where it is asked for; what is no digit changes nothing.
+fn longer(value: u64, b: u8, asked: bool) -> u64 {
+    if !asked {
+        return value;
+    }
+    if b < 48 {
+        return value;
+    }
+    if 57 < b {
+        return value;
+    }
+    value % 100000000000000000 * 10 + (b - 48) as u64
+}
+
+fn spaces_in(b: u8) -> usize
+    ensures { λ r. ⌜ r ≤ 1 ⌝ }
+{
+    if b == 32 { 1 } else { 0 }
+}
+
+// The number after `skip` spaces of a line, or 0.
+fn number(line: &[u8], skip: usize) -> u64 {
+    let mut spaces = 0;
+    let mut value: u64 = 0;
+    let mut i = 0;
+    while i < line.len() {
+        value = longer(value, line[i], spaces == skip);
+        spaces += spaces_in(line[i]);
+        i += 1;
+    }
+    value
+}
+
+fn letter(line: &[u8]) -> u8 {
+    if line.len() == 0 { 0 } else { line[0] }
+}
+
+fn words_of(line: &[u8]) -> Words {
+    Words {
+        letter: letter(line),
+        a: number(line, 1),
+        b: number(line, 2),
+        c: number(line, 3),
+        d: number(line, 4),
+    }
+}
+
+fn say_comment(line: &[u8], letter: u8) {
+    if letter == b'#' {
+        say(line);
+        end_line();
+    }
+}
+
+// The number, or the most that it may be.
+fn at_most(n: u64, most: usize) -> usize
+    ensures { λ r. ⌜ r ≤ most ⌝ }
+{
+    if n < most as u64 { n as usize } else { most }
+}
+
+fn rest(kind: u8) -> u8 {
+    if kind == 0 { 0x88 } else { 0 }
+}
+
+// A crossing has every code 8 but the GTFE's, which is the last number; a command's other bytes are 0.
+fn record_of(w: Words) -> [u8; 24] {
+    let kind = byte(w.a);
+    let mut rec = [rest(kind); 24];
+    rec[0] = kind;
+    rec[1] = byte(w.b);
+    rec[2] = byte(w.c);
+    rec[3] = byte(w.d);
+    rec
+}
+
+fn hex(n: u8) -> u8
+    requires { ⌜ n < 16 ⌝ }
+{
+    if n < 10 { 48 + n } else { 87 + n }
+}
+
+fn say_byte(b: u8) {
+    let digits = [hex(b / 16), hex(b % 16)];
+    say(&digits);
+}
+
+fn say_gap(k: usize) {
+    if k % 12 == 0 {
+        say(b" ");
+    }
+}
+
+// The rows of 12 bytes that end at a place.
+fn say_rows(rows: &[u8], end: usize)
+    requires { ⌜ end ≤ length (now rows) ⌝ }
+{
+    let mut k = 0;
+    while k < end {
+        say_gap(k);
+        say_byte(rows[k]);
+        k += 1;
+    }
+}
+
+// Whether a rows buffer, which held 170 everywhere, does from a place on.
+fn is_untouched(rows: &[u8], from: usize) -> bool
+    requires { ⌜ from ≤ length (now rows) ⌝ }
+{
+    let mut same = true;
+    let mut k = from;
+    while k < rows.len() {
+        same = same & (rows[k] == 170);
+        k += 1;
+    }
+    same
+}
+
+fn say_left(what: &[u8], same: bool) {
+    say(what);
+    if same {
+        say(b" kept");
+    } else {
+        say(b" changed");
+    }
+}
+
+// Where the rows of a log end, as far as they fit into the room; a refused block writes none.
+fn rows_end(done: bool, long: usize, room: usize) -> usize
+    ensures { λ r. ⌜ r ≤ room ⌝ }
+{
+    if done {
+        return at_most(long as u64 / 24, room / 12) * 12;
+    }
+    0
+}
+
+// The rows that a block wrote, and whether it wrote nothing after them.
+fn say_written(rows: &[u8], done: bool, end: usize)
+    requires { ⌜ end ≤ length (now rows) ⌝ }
+{
+    say_rows(rows, end);
+    let same = is_untouched(rows, end);
+    if done {
+        say_left(b", later bytes", same);
+    } else {
+        say_left(b", rows", same);
+    }
+    end_line();
+}
+
+// Runs a block over the first bytes of a rows buffer, and tells what it left.
+fn run_block(before: Board, log: &[u8], rows: &mut [u8], room: usize) -> Board
+    requires { ⌜ room ≤ length (now rows) ⌝ }
+{
+    let r = before.block(log, &mut rows[..room]);
+    let a = r.answer;
+    let board = r.board;
+    let done = a.is_done();
+    say_answer(a);
+    say_left(b", board", is_same(before, board));
+    say_written(rows, done, rows_end(done, log.len(), room));
+    board
+}
+
+impl Log {
+    fn empty() -> Log {
+        Log {
+            bytes: [0u8; 960],
+            long: 0,
+        }
+    }
+
+    fn with_byte(mut self, at: usize, value: u8) -> Log {
+        if at < 960 {
+            self.bytes[at] = value;
+        }
+        self
+    }
+
+    // One record more, where there is room.
+    fn with_record(mut self, rec: [u8; 24]) -> Log {
+        let at = self.long;
+        if 936 < at {
+            return self;
+        }
+        let mut k = 0;
+        while k < 24 {
+            self.bytes[at + k] = rec[k];
+            k += 1;
+        }
+        self.long = at + 24;
+        self
+    }
+
+    fn with_length(mut self, n: usize) -> Log {
+        self.long = n;
+        self
+    }
+
+    // The log after a line.
+    fn obey(self, w: Words) -> Log {
+        let letter = w.letter;
+        match letter {
+            b'n' => Log::empty(),
+            b'a' => self.with_record(record_of(w)),
+            b'z' => self.with_byte(at_most(w.a, 960), byte(w.b)),
+            b'l' => self.with_length(at_most(w.a, 960)),
+            _ => self,
+        }
+    }
+}
+
+fn fresh_board() -> Board {
+    let made = Board::fresh(Settings::standard());
+    made.board
+}
+
+fn run_log(board: Board, log: Log, room: usize) -> Board
+    requires { ⌜ room ≤ 480 ⌝ }
+{
+    // No line makes the log longer than its buffer; the bound is taken again for the proof.
+    let n = at_most(log.long as u64, 960);
+    let bytes = log.bytes;
+    let mut rows = [170u8; 480];
+    run_block(board, &bytes[..n], &mut rows, room)
+}
+
+fn remade(before: Board) -> Board {
+    let made = Board::fresh(before.settings);
+    let a = made.answer;
+    let board = made.board;
+    say_answer(a);
+    say_left(
+        b", settings",
+        are_same_settings(before.settings, board.settings),
+    );
+    end_line();
+    board
+}
+
+// The board after a line.
+fn obey(board: Board, log: Log, w: Words) -> Board {
+    let letter = w.letter;
+    match letter {
+        b'n' => fresh_board(),
+        b's' => set_setting(board, at_most(w.a, 70), w.b),
+        b'v' => set_clock(board, w.a, w.b),
+        b'p' => set_ptc(board, at_most(w.a, 7), w.b, w.c),
+        b'm' => set_mark(board, at_most(w.a, 31), w.b),
+        b'b' => run_log(board, log, at_most(w.a, 480)),
+        b'f' => remade(board),
+        _ => board,
+    }
+}
+
+fn obey_all(input: &[u8]) {
+    let mut board = fresh_board();
+    let mut log = Log::empty();
+    let mut at = 0;
+    while at < input.len() {
+        let end = line_end(input, at);
+        let w = words_of(&input[at..end]);
+        say_comment(&input[at..end], w.letter);
+        log = log.obey(w);
+        board = obey(board, log, w);
+        at = after(input, end);
+    }
+}
+
+fn main() {
+    let mut input = [0u8; 8192];
+    let n = io::read_full(STDIN_FILENO, &mut input);
+    obey_all(&input[..n]);
+}
