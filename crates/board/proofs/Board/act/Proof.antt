@@ -1,5 +1,5 @@
 -- The loop fills the three lists place by place: the first k controllers, bytes and statuses are those after the crossing.
--- A turn is `over-place` and `over-turn`, with what the calls answered put together by the laws of `Eight`.
+-- A turn is `over-turn`, with what the calls answered put together by the laws of `Eight`.
 use mathlib.Core.Path.{_≡_, refl, ap, _∙_}
 use mathlib.Core.List.{List}
 use Prim.Native.Nat.{_≤_, _<_, _-_}
