@@ -3,20 +3,21 @@
 use mathlib.Core.Path.{_≡_, refl, ap, sym, _∙_}
 use mathlib.Core.Logic.{⊎-elim}
 use mathlib.Core.Bool.{Bool, true, false, not, _&&_, _||_, and-false}
-use mathlib.Core.List.{List, [], _∷_}
+use mathlib.Core.List.{List}
 use Prim.Native.Nat.{ℕ, zero, suc, _+_, _-_, _/_, _%_, _^_, _≤_, _<_}
 use native.Mathlib.Nat.{zero-add, le-of-suc-le-suc, not-suc-le-zero, pow-suc, div-self, zero-div, div-eq-of-lt}
 use native.Mathlib.Omega.{arith}
 use borrow.Author.Tests.{eq-eqb, ne-eqb, eqb-true, ltb-true, not-true}
 use lib.Dec.{ltb, eqb}
-use lib.ListN.{length, getD, set, replicate, length-set, getD-replicate}
-use lib.Seq.{ext-getD, set-getD, getD-set-same, getD-set-other, set-append-left}
+use lib.ListN.{length, getD, set, replicate, getD-replicate}
+use lib.Seq.{set-getD, set-append-left}
 use lib.Pow.{pow-pos, pow-lt, pow-add, shl-shr}
 use Rattle.laws.specs.Base.{if, one, allB, mapI}
 use Rattle.laws.proofs.Bools.{both, and-true}
 use Rattle.laws.proofs.Tests.{either, lt-or-ge, same-or-not}
 use Rattle.laws.proofs.All.{alli-get, alli-set}
 use Rattle.laws.proofs.Over.{length-mapI, getD-mapI}
+use Rattle.laws.proofs.Maps.{map-is, map-but, map-same}
 use Rattle.settings.specs.declared.names.Schedule.{Schedule}
 use Rattle.settings.specs.Names.{orbitOf, scheduleOf}
 use Rattle.status.specs.Merge.{classes}
@@ -38,31 +39,6 @@ use Rattle.board.specs.Kit.{planOf}
 use Rattle.board.specs.Crossing.{turnIn, freeNow, sceneAt, sceneOf, actOf, ptcOf, byteOf, shownOf, eight, clockOf, boardCrossed, rowCrossed}
 use Rattle.board.specs.Command.{freshPtc}
 use Rattle.board.specs.Still.{calmUnder, stillRow, plainNumber, plainRecord, plainCrossing}
-
--- ---- a map by what it gives at each place, and where one place is told apart
-
-module _ {A B : Type 0} (f : ℕ → A → B) (l : List A) (d : A) (e : B) where
-  map-is : (m : List B) → length m ≡ length l → ((k : ℕ) → k < length l → f k (getD l k d) ≡ getD m k e) → mapI f 0 l ≡ m
-  map-is m long each =
-      ext-getD e (mapI f 0 l) m (length-mapI f 0 l ∙ sym long)
-      (λ k h. let p : k < length l = rw (← length-mapI f 0 l) h in getD-mapI f 0 k l d e p ∙ rw zero-add (each k p))
-
-  map-but : (m : List B) → length m ≡ length l → (h : ℕ) (r : B) → h < length l → f h (getD l h d) ≡ r
-      → ((k : ℕ) → k < length l → (k ≡ h → ⊥) → f k (getD l k d) ≡ getD m k e) → mapI f 0 l ≡ set m h r
-  map-but m long h r p here others =
-      map-is (set m h r) (length-set m h r ∙ long)
-      (λ k q.
-      ⊎-elim
-      (λ (z : k ≡ h). rw z (here ∙ sym (getD-set-same m h r e (rw long p))))
-      (λ (n : k ≡ h → ⊥). others k q n ∙ sym (getD-set-other m h k r e n))
-      (same-or-not k h))
-
--- a place that is set to what the map does not tell apart
-map-same : {A B : Type 0} (f : A → B) (i : ℕ) (l : List A) (n : ℕ) (a d : A) → f a ≡ f (getD l n d) → mapI (λ k. f) i (set l n a) ≡ mapI (λ k. f) i l
-unfolding mapI
-map-same f i [] n a d e = refl
-map-same {B = B} f i (x ∷ l) zero a d e = ap (λ (y : B). y ∷ mapI (λ k. f) (suc i) l) e
-map-same {B = B} f i (x ∷ l) (suc n) a d e = ap (λ (r : List B). f x ∷ r) (map-same f (suc i) l n a d e)
 
 -- ---- requests of the holder alone
 

@@ -1,7 +1,8 @@
 -- Laws of `&&` and `if`: what a true conjunction says of its parts, and which way an `if` went.
 -- By cases on the Bools.
 use mathlib.Core.Path.{_≡_, refl}
-use mathlib.Core.Bool.{Bool, true, false, _&&_, false≢true}
+use mathlib.Core.Logic.{_⊎_, inl, inr}
+use mathlib.Core.Bool.{Bool, true, false, _&&_, _||_, false≢true}
 use Prim.Native.Nat.{ℕ, _≤_}
 use native.Mathlib.Omega.{arith}
 use Rattle.laws.specs.Base.{if, one}
@@ -12,6 +13,10 @@ both false b e = absurd (false≢true e)
 
 pub and-yes : (a b : Bool) → a ≡ true → b ≡ true → a && b ≡ true
 and-yes a b p q = rw (p, q)
+
+pub or-true : (a b : Bool) → a || b ≡ true → (a ≡ true) ⊎ (b ≡ true)
+or-true true b e = inl refl
+or-true false b e = inr e
 
 pub and-true : (a : Bool) → a && true ≡ a
 and-true true = refl

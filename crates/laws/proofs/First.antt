@@ -33,3 +33,13 @@ first-all p (suc n) k e zero h = rw add-zero (if-yes (p k) (firstNot p n (suc k)
 first-all p (suc n) k e (suc i) h =
     let w = if-yes (p k) (firstNot p n (suc k)) k (k + suc n) e (λ z. omega arith) in
     rw (add-suc, ← suc-add) (first-all p n (suc k) (w .1 ∙ rw (add-suc, ← suc-add)) i (le-of-suc-le-suc h))
+
+-- and the other way
+pub first-none : (p : ℕ → Bool) (n k : ℕ) → ((i : ℕ) → i < n → p (k + i) ≡ true) → firstNot p n k ≡ k + n
+unfolding firstNot
+first-none p zero k w = sym (add-zero k)
+first-none p (suc n) k w =
+    let here : p k ≡ true = rw add-zero at (w 0 (omega arith)) in
+    let more : suc k + n ≡ k + suc n = omega arith in
+    let later : (i : ℕ) → i < n → p (suc k + i) ≡ true = λ i h. let e : suc k + i ≡ k + suc i = omega arith in rw e (w (suc i) (omega arith)) in
+    rw here (first-none p n (suc k) later ∙ more)

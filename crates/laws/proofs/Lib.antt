@@ -4,3 +4,4 @@ pub mod All
 pub mod First
 pub mod Over
 pub mod Highest
+pub mod Maps

@@ -67,10 +67,6 @@ module _ {A : Type 0} (f : ℕ → A → A) (l : List A) where
   pub over-read : (n : ℕ) (d : A) (cur : List A) → n < length l → cur ≡ over n (mapI f 0 l) l → getD cur n d ≡ getD l n d
   over-read n d cur p e = rw e (over-get n (mapI f 0 l) l d (rw length-mapI (omega arith)))
 
-  pub over-place : (n : ℕ) (d : A) (cur : List A) (r : A) → n < length l → cur ≡ over n (mapI f 0 l) l → r ≡ f n (getD cur n d)
-      → set cur n r ≡ over (n + 1) (mapI f 0 l) l
-  over-place n d cur r p e h = over-turn f l n d cur l r p p e (h ∙ ap (f n) (over-read n d cur p e))
-
 -- a loop that fills a list with f of each place
 module _ {A : Type 0} (f : ℕ → A) where
   pub length-tabulate : (i n : ℕ) → length (tabulate f i n) ≡ n

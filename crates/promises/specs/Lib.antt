@@ -1,1 +1,4 @@
-pub mod Figures
+pub mod Refusals
+pub mod Outcomes
+pub mod Programs
+pub mod Promises

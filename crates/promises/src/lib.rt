@@ -1,1 +1,1 @@
-// Theorems about the desk. It has no code that runs: what is claimed is in `specs/`, and why it holds in `proofs/`.
+// The three demands in one place. No code that runs: what is promised is in `specs/`, and why it holds in `proofs/`.

@@ -1,7 +1,7 @@
 -- Laws of the records and of the rows, for the board: what a block that is not refused has, what a well-formed record and a row's byte say.
 -- Each opens one definition; what speaks of n records is by induction on n.
 use mathlib.Core.Path.{_≡_, refl, ap, ap₂, sym, _∙_}
-use mathlib.Core.Logic.{_⊎_, inl, inr, ⊎-elim}
+use mathlib.Core.Logic.{_⊎_, ⊎-elim}
 use mathlib.Core.Bool.{Bool, true, false, not, _&&_, _||_}
 use mathlib.Core.List.{List, [], _∷_}
 use Prim.Native.Nat.{ℕ, zero, suc, _+_, _-_, _*_, _%_, _≤_, _<_}
@@ -13,10 +13,10 @@ use lib.Dec.{leb, eqb, ltb}
 use lib.ListN.{length, getD, take, drop, length-take, length-drop, List·getD-eq-default}
 use lib.Seq.{ext-getD, getD-take, getD-drop, drop-drop}
 use Rattle.laws.specs.Base.{one, allB, tabulate}
-use Rattle.laws.proofs.Bools.{both, if-yes, one-le}
+use Rattle.laws.proofs.Bools.{both, or-true, if-yes, one-le}
 use Rattle.laws.proofs.Tests.{lt-or-ge}
 use Rattle.laws.proofs.All.{all-get}
-use Rattle.laws.proofs.First.{first-all}
+use Rattle.laws.proofs.First.{first-all, first-none}
 use Rattle.laws.proofs.Over.{length-tabulate, getD-tabulate}
 use Rattle.answer.specs.Told.{DONE, LENGTH, ROOM, RECORD, LIFE}
 use Rattle.answer.proofs.Told.{not-done}
@@ -86,6 +86,9 @@ codes-lent log i = let e : 24 * i + 24 - (24 * i + 3) ≡ 21 = omega arith in rw
 pub well-at : (n : ℕ) (log : List ℕ) → firstIll n log ≡ n → (i : ℕ) → i < n → well (recAt log i) ≡ true
 well-at n log e i h = rw zero-add at (first-all (λ k. well (recAt log k)) n 0 (rw zero-add e) i h)
 
+pub all-formed : (n : ℕ) (log : List ℕ) → ((i : ℕ) → i < n → well (recAt log i) ≡ true) → firstIll n log ≡ n
+all-formed n log w = first-none (λ i. well (recAt log i)) n 0 (λ i h. rw zero-add (w i h)) ∙ zero-add n
+
 -- crossings are counted record by record
 pub crossings-step : (n : ℕ) (log : List ℕ) → crossingsIn (n + 1) log ≡ crossingsIn n log + one (isCrossing (recAt log n))
 unfolding crossingsIn
@@ -150,10 +153,6 @@ unfolding commandRow
 command-row-long taken = refl
 
 -- a well-formed record is one of a crossing or one of a command
-or-true : (a b : Bool) → a || b ≡ true → (a ≡ true) ⊎ (b ≡ true)
-or-true true b e = inl refl
-or-true false b e = inr e
-
 pub well-kind : (rec : List ℕ) → well rec ≡ true → (wellCrossing rec ≡ true) ⊎ (wellCommand rec ≡ true)
 unfolding well
 well-kind rec e = or-true (wellCrossing rec) (wellCommand rec) e

@@ -1,17 +1,20 @@
 -- What settings that pass the check satisfy: the ranges of the lines that steps count with, and the times within the orbit.
 -- No line is out of range, so each has the range that is computed from the table; no relation fails, so each of their tests is true.
-use mathlib.Core.Path.{_≡_, refl, ap, _∙_}
-use mathlib.Core.Bool.{Bool, true, false}
+use mathlib.Core.Path.{_≡_, refl, sym, ap, _∙_}
+use mathlib.Core.Logic.{⊎-elim}
+use mathlib.Core.Bool.{Bool, true, false, not, _&&_}
 use mathlib.Core.List.{List, [], _∷_}
 use Prim.Native.Nat.{ℕ, zero, suc, _+_, _≤_, _<_}
+use native.Mathlib.Nat.{le-of-suc-le-suc, not-suc-le-zero}
 use native.Mathlib.Omega.{arith}
-use borrow.Author.Tests.{leb-true, ltb-true}
-use lib.Dec.{leb, ltb, lit<}
-use lib.ListN.{length, getD, take, drop}
+use borrow.Author.Tests.{leb-true, ltb-true, eqb-false, not-true}
+use lib.Dec.{leb, ltb, eqb, lit<}
+use lib.ListN.{length, getD, take, drop, List·getD-eq-default}
 use lib.Seq.{getD-take, getD-drop}
 use Rattle.answer.specs.Told.{DONE, succeeded}
 use Rattle.laws.specs.Base.{allB}
 use Rattle.laws.proofs.Bools.{both}
+use Rattle.laws.proofs.Tests.{lt-or-ge}
 use Rattle.laws.proofs.All.{all-get}
 use Rattle.text.specs.declared.Range.{Range}
 use Rattle.text.specs.Lines.{rangesOf, within, firstOut}
@@ -21,7 +24,7 @@ use Rattle.settings.specs.declared.Settings.{Settings}
 use Rattle.settings.specs.declared.names.Schedule.{Schedule}
 use Rattle.settings.specs.Names.{after, orbitOf, gapOf, rulesOf, waitsOf, slotOf, scheduleOf, timesOf}
 use Rattle.settings.specs.Ranges.{nowhere, rangeAt}
-use Rattle.settings.specs.Relations.{relation, relations, firstFalse, below}
+use Rattle.settings.specs.Relations.{relation, relations, firstFalse, below, absent, distinct, lowFits}
 use Rattle.settings.specs.Check.{checked}
 use Rattle.settings.proofs.Lines.{ranged}
 use Rattle.settings.proofs.RoundTrip.{passed, check-done}
@@ -71,6 +74,12 @@ pub record Timed (s : Settings) : Type 0 where
   pub gap : gapOf s .high < orbitOf s
   pub times-below : Below (scheduleOf s) (orbitOf s)
 
+-- each low limit is within its normal limit
+pub record Ordered (s : Settings) : Type 0 where
+  pub second : rulesOf s .second .low ≤ rulesOf s .second .norm
+  pub third : rulesOf s .third .low ≤ rulesOf s .third .norm
+  pub fourth : rulesOf s .fourth .low ≤ rulesOf s .fourth .norm
+
 -- ---- of lists
 
 part : {A : Type 0} (from count : ℕ) (l : List A) (d : A) (k : ℕ) → k < count → getD (take count (drop from l)) k d ≡ getD l (from + k) d
@@ -88,6 +97,15 @@ unfolding allB
 each-below m [] some e i = some
 each-below m (x ∷ l) some e zero = ltb-true x m (both (ltb x m) (below m l) e .0)
 each-below m (x ∷ l) some e (suc i) = each-below m l some (both (ltb x m) (below m l) e .1) i
+
+each-apart : (l : List ℕ) → distinct l ≡ true → (i j : ℕ) → i < j → j < length l → getD l i 0 ≡ getD l j 0 → ⊥
+unfolding allB
+each-apart [] e i j less h = absurd (not-suc-le-zero h)
+each-apart (x ∷ l) e zero (suc j) less h =
+    let w = both (absent x l) (distinct l) e in
+    eqb-false x _ (not-true (eqb x (getD l j 0)) (all-get (λ y. not (eqb x y)) l j 0 (w .0) (le-of-suc-le-suc h)))
+each-apart (x ∷ l) e (suc i) (suc j) less h = each-apart l (both (absent x l) (distinct l) e .1) i j (le-of-suc-le-suc less) (le-of-suc-le-suc h)
+each-apart (x ∷ l) e i zero less h = absurd (not-suc-le-zero less)
 
 -- ---- the ranges of the slots
 
@@ -171,3 +189,29 @@ module _ (s : Settings) (ok : checked s ≡ DONE) where
           cal = time 10 (lit< tt);
         };
       }
+
+  pub ordered : Ordered s
+  ordered =
+      let rules = rulesOf s in
+      let a = both (lowFits (rules .second)) (lowFits (rules .third) && lowFits (rules .fourth)) (relation-at 4) in
+      let b = both (lowFits (rules .third)) (lowFits (rules .fourth)) (a .1) in
+      record { second = leb-true _ _ (a .0); third = leb-true _ _ (b .0); fourth = leb-true _ _ (b .1) }
+
+  -- at_cal lies after another time, so it is no value past the end of a short list
+  times-long : 10 < length (timesOf s)
+  times-long =
+      ⊎-elim
+      (λ (h : 10 < length (timesOf s)). h)
+      (λ (h : length (timesOf s) ≤ 10).
+      let none : after s 38 ≡ 0 = sym (part 28 11 (s .values) 0 10 (lit< tt)) ∙ List·getD-eq-default (timesOf s) 0 h in
+      let at = scheduleOf s in
+      let later = ltb-true (at .te) (at .cal) (both (ltb (at .wte) (at .te)) (ltb (at .te) (at .cal)) (relation-at 3) .1) in
+      absurd (omega (arith, none, later)))
+      (lt-or-ge 10 (length (timesOf s)))
+
+  -- no two of the eleven times are the same
+  pub times-apart : (i j : ℕ) → i < j → j < 11 → after s (28 + i) ≡ after s (28 + j) → ⊥
+  times-apart i j less h e =
+      let first = part 28 11 (s .values) 0 i (omega arith) in
+      let second = part 28 11 (s .values) 0 j h in
+      each-apart (timesOf s) (relation-at 2) i j less (omega (arith, times-long)) (first ∙ e ∙ sym second)

@@ -2,7 +2,7 @@
 -- By cases on the tests of the definitions; at each arm the states and codes are numerals, which compute.
 use mathlib.Core.Path.{_≡_, refl, sym, _∙_}
 use mathlib.Core.Logic.{_⊎_, inl, inr, ⊎-elim}
-use mathlib.Core.Bool.{Bool, true, false, not, _&&_, _||_, true≢false}
+use mathlib.Core.Bool.{Bool, true, false, not, _&&_, _||_, true≢false, false≢true}
 use Prim.Native.Nat.{ℕ, _-_, _≤_}
 use native.Mathlib.Omega.{arith}
 use borrow.Author.Tests.{le-leb, eq-eqb, ne-eqb, leb-true, eqb-true, eqb-false, not-true}
@@ -14,7 +14,8 @@ use Rattle.settings.specs.declared.names.Schedule.{Schedule}
 use Rattle.settings.specs.declared.names.Waits.{Waits}
 use Rattle.status.specs.Class.{ready, warning, outOfSync, error, bad}
 use Rattle.states.specs.declared.Step.{Step}
-use Rattle.states.specs.Names.{statusOf}
+use Rattle.states.specs.declared.Moved.{Moved}
+use Rattle.states.specs.Names.{READY, WARN, running, statusOf}
 use Rattle.states.specs.Moves.{goes, timed, afterResync, whileRunning, whileDisconnected, moveOf, entryWait, movedOf}
 use Rattle.states.specs.Commands.{stateAfter}
 use Rattle.states.specs.Sound.{waiting, soundState, soundWaits}
@@ -243,3 +244,60 @@ status-low s = shows s .low
 
 pub shows-running : (s : ℕ) → (statusOf s ≡ 8 → s ≡ 7) × (statusOf s ≡ 1 → s ≡ 8)
 shows-running s = (shows s .ready, shows s .warn)
+
+-- the status as a test of the state
+pub shows-ready : (s : ℕ) → eqb (statusOf s) 8 ≡ eqb s READY
+unfolding statusOf
+shows-ready s =
+    ⊎-elim
+    (λ (e : s ≡ 7). rw e)
+    (λ (n : s ≡ 7 → ⊥). ne-eqb (statusOf s) 8 (λ q. n (shows-running s .0 q)) ∙ sym (ne-eqb s 7 n))
+    (same-or-not s 7)
+
+pub shows-warn : (s : ℕ) → eqb (statusOf s) 1 ≡ eqb s WARN
+unfolding statusOf
+shows-warn s =
+    ⊎-elim
+    (λ (e : s ≡ 8). rw e)
+    (λ (n : s ≡ 8 → ⊥). ne-eqb (statusOf s) 1 (λ q. n (shows-running s .1 q)) ∙ sym (ne-eqb s 8 n))
+    (same-or-not s 8)
+
+pub shows-runs : (s : ℕ) → eqb (statusOf s) 8 || eqb (statusOf s) 1 ≡ running s
+shows-runs s = rw (shows-ready s, shows-warn s)
+
+-- ---- a move that leads to a running state sends no code
+
+abbrev Quiet : Step → Type 0
+Quiet x = running (x .state) ≡ true → x .code ≡ 0
+
+-- at its number a timed move leads to a state that does not run
+timed-quiet : (t : Bool) (from code to : ℕ) → running to ≡ false → Quiet (if t (record { state = to; code = code }) (record { state = from; code = 0 }))
+timed-quiet true from code to e r = absurd (false≢true (sym e ∙ r))
+timed-quiet false from code to e r = refl
+
+move-quiet : (at : Schedule) (k number class s : ℕ) → Quiet (moveOf at k number class s)
+unfolding moveOf
+move-quiet at k number class s =
+    if-has Quiet (eqb s 1) _ _ (λ e. timed-quiet (eqb number (at .resync)) 1 5 2 refl)
+    (λ e. if-has Quiet (eqb s 2) _ _ (λ e r. refl)
+    (λ e. if-has Quiet (eqb s 3) _ _ (λ e. timed-quiet (eqb number (at .oc0)) 3 8 4 refl)
+    (λ e. if-has Quiet (eqb s 4) _ _ (λ e. timed-quiet (eqb number (at .start)) 4 9 5 refl)
+    (λ e. if-has Quiet (eqb s 5) _ _ (λ e. timed-quiet (eqb number (at .ec0)) 5 7 6 refl)
+    (λ e. if-has Quiet (eqb s 6) _ _ (λ e r. refl)
+    (λ e. if-has Quiet (eqb s 7) _ _ (λ e r. refl)
+    (λ e. if-has Quiet (eqb s 8) _ _ (λ e r. refl)
+    (λ e. if-has Quiet (eqb s 9) _ _ (λ e r. refl)
+    (λ e. if-has Quiet (eqb s 12) _ _ (λ e r. refl)
+    (λ e. if-has Quiet (eqb s 13) _ _ (λ e. timed-quiet (eqb number (at .hard)) 13 6 14 refl)
+    (λ e. if-has Quiet (eqb s 14) _ _ (λ e r. refl)
+    (λ e. if-has Quiet (eqb s 15) _ _ (λ e r. refl)
+    (λ e. if-has Quiet (eqb s 16) _ _ (λ e. timed-quiet (eqb number (at .resync)) 16 5 17 refl)
+    (λ e. if-has Quiet (eqb s 17) _ _ (λ e r. refl)
+    (λ e. if-has Quiet (eqb s 19) _ _ (λ e. timed-quiet (eqb number (at .stop)) 19 10 0 refl)
+    (λ e r. refl))))))))))))))))
+
+pub moved-quiet : (at : Schedule) (w : Waits) (k number class s wait : ℕ) → running (movedOf at w k number class s wait .state) ≡ true
+    → movedOf at w k number class s wait .code ≡ 0
+unfolding movedOf
+moved-quiet at w k number class s wait =
+    if-has (λ (x : Moved). running (x .state) ≡ true → x .code ≡ 0) (eqb wait 0) _ _ (λ e. move-quiet at k number class s) (λ e r. refl)

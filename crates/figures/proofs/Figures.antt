@@ -31,7 +31,7 @@ use Rattle.board.specs.Crossing.{turnIn, sceneOf, actOf, byteOf, shownOf, clock
 use Rattle.board.specs.Command.{freshPtc, commandIn, boardCommanded, rowCommanded}
 use Rattle.board.specs.Run.{stepped, rowOf}
 use Rattle.board.specs.Fresh.{freshBoard}
-use Rattle.promises.specs.Figures.{sends, crossingWith, tells, later, started, Figures}
+use Rattle.figures.specs.Figures.{sends, crossingWith, tells, later, started, Figures}
 
 -- every definition on the way from a record to a row; `unfolding opened` opens them all
 unfoldable opened : ℕ

@@ -1,0 +1,53 @@
+-- Demand 3, third sentence: requests since the last accepted START, or the fresh board, equal those sent plus those lost under the
+-- five causes; and the closing board's counts, and so the report's lines, are those that the reading has.
+use Prim.Native.Nat.{ℕ, suc, _+_, _<_}
+use mathlib.Core.Path.{_≡_}
+use mathlib.Core.List.{List, _++_}
+use lib.ListN.{getD}
+use Rattle.laws.specs.Base.{one, mapI}
+use Rattle.text.specs.Lines.{linesText}
+use Rattle.keys.specs.Report.{commonKeys}
+use Rattle.settings.specs.declared.Settings.{Settings}
+use Rattle.ptc.specs.declared.Ptc.{Ptc}
+use Rattle.ptc.specs.declared.counts.Counts.{Counts}
+use Rattle.ptc.specs.Sound.{lostSum}
+use Rattle.records.specs.Refusal.{recordsIn}
+use Rattle.board.specs.declared.Board.{Board}
+use Rattle.board.specs.Command.{freshPtc}
+use Rattle.report.specs.Report.{commonValues, blocksFrom, reportText}
+use Rattle.logbook.specs.Whole.{Taken, Crossing, whole}
+use Rattle.balance.specs.Reading.{Reading, lookAt, readingOf}
+
+-- sent, or lost
+abbrev pub settled : Counts → ℕ
+settled c = c .accepted + lostSum (c .lost)
+
+-- a controller that has a reading's counts, and a state
+abbrev pub shownAs : Reading → ℕ → Ptc
+shownAs r state = record { state = state; wait = 0; cycle = 0; counts = r .counts; events = r .events }
+
+-- controller k's reading of the whole log
+abbrev pub read : Settings → List ℕ → List ℕ → ℕ → Reading
+read s log rows k = readingOf s log rows k (recordsIn log)
+
+module _ (s : Settings) (log rows : List ℕ) (closing : Board) where
+  pub record Balanced (k : ℕ) : Type 0 where
+    pub requests : read s log rows k .counts .requested ≡ settled (read s log rows k .counts)
+    pub calibrations : read s log rows k .counts .cal .requested ≡ read s log rows k .counts .cal .accepted + read s log rows k .counts .cal .lost
+    pub counts : getD (closing .ptcs) k freshPtc .counts ≡ read s log rows k .counts
+    pub events : getD (closing .ptcs) k freshPtc .events ≡ read s log rows k .events
+    -- each request settles once: as sent, or under one cause
+    pub once : (i : ℕ) → Crossing log i
+        → settled (readingOf s log rows k (suc i) .counts) ≡ settled (readingOf s log rows k i .counts) + one (lookAt s log rows k i .asked)
+
+  -- but for the states, the blocks of the report say what the readings say
+  abbrev pub Reported : Type 0
+  Reported = reportText closing ≡ linesText commonKeys (commonValues closing) ++ blocksFrom s 0 (mapI (λ k p. shownAs (read s log rows k) (p .state)) 0 (closing .ptcs))
+
+-- of any log that a fresh board accepts, for each controller
+pub record Balance (s : Settings) (log buffer : List ℕ) : Type 0 where
+  pub each : (k : ℕ) → k < 8 → Balanced s log (whole s log buffer .rows) (whole s log buffer .board) k
+  pub reported : Reported s log (whole s log buffer .rows) (whole s log buffer .board)
+
+abbrev pub Balances : Type 0
+Balances = (s : Settings) (log buffer : List ℕ) → Taken s log buffer → Balance s log buffer

@@ -1,0 +1,106 @@
+-- Demand 3, third sentence: what a bench counts by itself, walking records and rows side by side. It never sees the board.
+use Prim.Native.Nat.{ℕ, zero, suc, _+_}
+use mathlib.Core.Bool.{Bool, false, not, _&&_, _||_}
+use mathlib.Core.List.{List}
+use lib.Dec.{eqb}
+use lib.ListN.{getD}
+use Rattle.laws.specs.Base.{if, one}
+use Rattle.settings.specs.declared.Settings.{Settings}
+use Rattle.settings.specs.declared.names.Gap.{Gap}
+use Rattle.settings.specs.Names.{gapOf, scheduleOf}
+use Rattle.states.specs.Commands.{START}
+use Rattle.ptc.specs.declared.counts.Counts.{Counts}
+use Rattle.ptc.specs.declared.counts.Calibrations.{Calibrations}
+use Rattle.ptc.specs.Counts.{STATE, SLOT, GAP, CAL, THROTTLE, inGap, lostTo, noCounts}
+use Rattle.records.specs.Records.{recAt, isCrossing, askedIn}
+use Rattle.logbook.specs.Row.{rowAt, codeIn, sentIn, calIn, runsIn, takenIn}
+use Rattle.logbook.specs.Beam.{numberIn, holderIn}
+
+-- of one controller: whether its calibration cycle is open, the counts since its last START that a row shows as taken, and the
+-- triggers since code 7
+pub record Reading : Type 0 where
+  pub calibrating : Bool
+  pub counts : Counts
+  pub events : ℕ
+
+-- from the fresh board on
+abbrev pub unread : Reading
+unread = record { calibrating = false; counts = noCounts; events = 0 }
+
+-- what the bench sees of controller k in crossing i: its request bit, the row's bits and code, ready or warning by the row's status,
+-- and the number and whether the slot is its own by the settings and the markers
+pub record Look : Type 0 where
+  pub asked : Bool
+  pub sent : Bool
+  pub cal : Bool
+  pub code : ℕ
+  pub runs : Bool
+  pub own : Bool
+  pub number : ℕ
+
+unfoldable pub lookAt : Settings → List ℕ → List ℕ → ℕ → ℕ → Look
+lookAt s log rows k i = record {
+  asked = askedIn (getD (recAt log i) 2 0) k;
+  sent = sentIn (rowAt rows i) k;
+  cal = calIn (rowAt rows i) k;
+  code = codeIn (rowAt rows i) k;
+  runs = runsIn (rowAt rows i) k;
+  own = eqb k (holderIn s log i);
+  number = numberIn s log i;
+}
+
+-- the cycle is open from code 13 on, while the status is ready or warning and the slot its own
+unfoldable pub opens : Look → Bool → Bool
+opens l before = l .runs && (l .own && (before || eqb (l .code) 13))
+
+-- a request that was not sent is lost under the first that holds: state, slot, gap, cal; else throttle
+unfoldable pub cause : Gap → Look → Bool → ℕ
+cause gap l busy =
+    if (l .runs)
+    (if (l .own)
+    (if (inGap gap (l .number)) GAP
+    (if busy CAL THROTTLE))
+    SLOT)
+    STATE
+
+-- a calibration trigger is asked for, and sent or lost
+unfoldable pub calCounted : Look → Bool → Calibrations → Calibrations
+calCounted l asks c = record {
+  requested = c .requested + one asks;
+  accepted = c .accepted + one (l .cal);
+  lost = c .lost + one (asks && not (l .cal));
+}
+
+-- requests by the records, those sent by the rows, the others under their cause
+unfoldable pub counted : Gap → Look → Bool → Bool → Counts → Counts
+counted gap l busy asks c = record {
+  requested = c .requested + one (l .asked);
+  accepted = c .accepted + one (l .sent);
+  lost = if (l .asked && not (l .sent)) (lostTo (cause gap l busy) (c .lost)) (c .lost);
+  cal = calCounted l asks (c .cal);
+}
+
+-- an open cycle asks its trigger at at_cal, and ends there
+unfoldable pub pastCrossing : Settings → Look → Reading → Reading
+pastCrossing s l r =
+    let busy = opens l (r .calibrating) in
+    let asks = busy && eqb (l .number) (scheduleOf s .cal) in
+    record {
+      calibrating = busy && not asks;
+      counts = counted (gapOf s) l busy asks (r .counts);
+      events = if (eqb (l .code) 7) 0 (r .events) + one (l .sent || l .cal);
+    }
+
+-- a command to controller k whose row says taken: START clears the counts; CALIBRATE is taken without a cycle, the others end it
+unfoldable pub pastCommand : List ℕ → List ℕ → ℕ → Reading → Reading
+pastCommand rec row k r =
+    if (eqb (getD rec 1 0) k && takenIn row)
+    (record { calibrating = false; counts = if (eqb (getD rec 2 0) START) noCounts (r .counts); events = r .events })
+    r
+
+-- after the first n records
+unfoldable pub readingOf : Settings → List ℕ → List ℕ → ℕ → ℕ → Reading
+readingOf s log rows k zero = unread
+readingOf s log rows k (suc i) =
+    let r = readingOf s log rows k i in
+    if (isCrossing (recAt log i)) (pastCrossing s (lookAt s log rows k i) r) (pastCommand (recAt log i) (rowAt rows i) k r)

@@ -1,0 +1,4 @@
+pub mod Decoding
+pub mod Ground
+pub mod Beams
+pub mod Seen

@@ -1,0 +1,3 @@
+pub mod Row
+pub mod Beam
+pub mod Whole

@@ -1,0 +1,31 @@
+-- The complaint that started the project, as a promise: no group's trigger gets into another group's file.
+use Prim.Native.Nat.{ℕ, _≤_, _<_}
+use mathlib.Core.Path.{_≡_}
+use mathlib.Core.Logic.{_⊎_}
+use mathlib.Core.Bool.{true, false}
+use mathlib.Core.List.{List}
+use lib.ListN.{getD}
+use Rattle.settings.specs.declared.Settings.{Settings}
+use Rattle.settings.specs.Names.{gapOf}
+use Rattle.ptc.specs.Counts.{inGap}
+use Rattle.records.specs.Records.{recAt, askedIn}
+use Rattle.logbook.specs.Row.{rowAt, sentIn, calIn, sendsIn, triggersIn, runsIn}
+use Rattle.logbook.specs.Beam.{numberIn, holderIn}
+use Rattle.logbook.specs.Whole.{Taken, Crossing, whole}
+
+-- controller k sends a trigger in crossing i: it is the holder that the settings and the markers name, its status is ready or
+-- warning, and the crossing is outside the gap or the trigger is a calibration trigger; a request's trigger was requested
+pub record Rightful (s : Settings) (log rows : List ℕ) (i k : ℕ) : Type 0 where
+  pub holds : k ≡ holderIn s log i
+  pub runs : runsIn (rowAt rows i) k ≡ true
+  pub place : (inGap (gapOf s) (numberIn s log i) ≡ false) ⊎ (calIn (rowAt rows i) k ≡ true)
+  pub asked : sentIn (rowAt rows i) k ≡ true → askedIn (getD (recAt log i) 2 0) k ≡ true
+
+-- in each crossing at most one trigger is sent, and rightfully
+pub record Owned (s : Settings) (log rows : List ℕ) : Type 0 where
+  pub one-at-most : (i : ℕ) → Crossing log i → triggersIn (rowAt rows i) ≤ 1
+  pub rightful : (i k : ℕ) → Crossing log i → k < 8 → sendsIn (rowAt rows i) k ≡ true → Rightful s log rows i k
+
+-- of any log that a fresh board accepts
+abbrev pub Owner : Type 0
+Owner = (s : Settings) (log buffer : List ℕ) → Taken s log buffer → Owned s log (whole s log buffer .rows)

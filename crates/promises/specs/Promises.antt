@@ -1,0 +1,40 @@
+-- What the coordinator can tell the groups: the three demands, each sentence by the claim that proves it.
+use mathlib.Core.Path.{_≡_}
+use mathlib.Core.List.{List, _++_}
+use Prim.Native.Nat.{ℕ, _≤_}
+use lib.ListN.{length, take, drop}
+use Rattle.answer.specs.Told.{DONE}
+use Rattle.settings.specs.declared.Settings.{Settings}
+use Rattle.settings.specs.Read.{readText}
+use Rattle.settings.specs.Write.{textOf, written}
+use Rattle.figures.specs.Figures.{Figures}
+use Rattle.cut.specs.Blocks.{Cut}
+use Rattle.owner.specs.Owned.{Owner}
+use Rattle.windows.specs.Windows.{Windows}
+use Rattle.balance.specs.Balanced.{Balances}
+use Rattle.promises.specs.Refusals.{Refusals}
+use Rattle.promises.specs.Outcomes.{OneOutcome}
+use Rattle.promises.specs.Programs.{NoEmptyProgram}
+
+-- demand 2, second sentence; settings have 71 values
+pub record RoundTrips : Type 0 where
+  pub accepted-writes-back : (text buffer : List ℕ) → readText text .answer ≡ DONE → length text ≤ length buffer
+      → written (readText text .settings) buffer ≡ record { answer = DONE; buffer = text ++ drop (length text) buffer }
+  pub written-reads-back : (s : Settings) (buffer : List ℕ) → length (s .values) ≡ 71 → written s buffer .answer ≡ DONE
+      → readText (take (length (textOf s)) (written s buffer .buffer)) ≡ record { answer = DONE; settings = s }
+
+pub record Promises : Type 0 where
+  -- no group's trigger in another group's file
+  pub owner : Owner
+  -- demand 1
+  pub refusals : Refusals
+  -- demand 2: the contracts are equations with the definitions of document 01; so one input has one outcome
+  pub one-outcome : OneOutcome
+  pub round-trips : RoundTrips
+  pub figures : Figures
+  -- demand 3
+  pub cut : Cut
+  pub windows : Windows
+  pub balance : Balances
+  -- and no program without work meets them
+  pub no-empty-program : NoEmptyProgram
