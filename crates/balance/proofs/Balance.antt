@@ -2,7 +2,7 @@
 -- By induction on the records the reading follows the controller; a sound board's sums agree, so the reading's do.
 use mathlib.Core.Path.{_≡_, refl, sym, ap, _∙_}
 use mathlib.Core.Logic.{⊎-elim}
-use mathlib.Core.Bool.{true, false, _&&_}
+use mathlib.Core.Bool.{true, false}
 use mathlib.Core.List.{List, [], _∷_, _++_}
 use Prim.Native.Nat.{ℕ, zero, suc, _+_, _≤_, _<_}
 use native.Mathlib.Nat.{zero-add, add-zero, add-suc, suc-add}
@@ -14,27 +14,24 @@ use lib.Seq.{getD-set-same, getD-set-other}
 use Rattle.laws.specs.Base.{one, mapI}
 use Rattle.laws.proofs.Bools.{both}
 use Rattle.laws.proofs.Tests.{either}
-use Rattle.laws.proofs.All.{alli-get}
 use Rattle.text.specs.Lines.{linesText}
 use Rattle.keys.specs.Report.{commonKeys}
 use Rattle.settings.specs.declared.Settings.{Settings}
 use Rattle.settings.specs.Names.{waitsOf, scheduleOf}
 use Rattle.settings.proofs.Bounds.{times-apart}
-use Rattle.states.specs.Sound.{soundState}
 use Rattle.ptc.specs.declared.Ptc.{Ptc}
 use Rattle.ptc.specs.Command.{commandedOf}
-use Rattle.ptc.specs.Sound.{soundCycle, soundCounts, soundPtc}
 use Rattle.ptc.proofs.Balance.{Balanced as CountsBalanced, counts-read}
+use Rattle.ptc.proofs.Keeps.{Sound, sound-read}
 use Rattle.records.specs.Records.{recAt, isCrossing, askedIn}
 use Rattle.records.specs.Rows.{commandRow}
 use Rattle.records.specs.Refusal.{recordsIn}
 use Rattle.board.specs.declared.Board.{Board}
 use Rattle.board.specs.Command.{freshPtc, commandIn, boardCommanded, rowCommanded}
 use Rattle.board.specs.Run.{stepped, rowOf, ran}
-use Rattle.board.specs.Sound.{soundEight}
 use Rattle.board.specs.Fresh.{freshBoard}
 use Rattle.board.proofs.Settled.{sound-parts}
-use Rattle.board.proofs.Keeps.{Fit}
+use Rattle.board.proofs.Keeps.{Fit, ptc-at}
 use Rattle.report.specs.Report.{commonValues, blockOf, blocksFrom, reportText}
 use Rattle.logbook.specs.Row.{rowAt, takenIn}
 use Rattle.logbook.specs.Whole.{Taken, Crossing, whole}
@@ -48,33 +45,18 @@ use Rattle.balance.proofs.Steps.{Follows, lookOf, crossing-follows, com
 
 -- ---- what a sound board says of controller k
 
-module _ (b : Board) (fit : Fit b) (k : ℕ) (low : k < 8) where
-  sound-ptc : soundPtc k (eqb k (b .turn .holder)) (b .clock .crossings) (getD (b .ptcs) k freshPtc) ≡ true
-  unfolding soundEight
-  sound-ptc =
-      let eight = sound-parts b (fit .sound) .eight in
-      let inside : k < length (b .ptcs) = omega (arith, fit .ptcs) in
-      rw zero-add at (alli-get (λ j p. soundPtc j (eqb j (b .turn .holder)) (b .clock .crossings) p) 0 (b .ptcs) k freshPtc eight inside)
+module _ (b : Board) (fit : Fit b) (k : ℕ) where
+  sound-here : Sound k (eqb k (b .turn .holder)) (b .clock .crossings) (getD (b .ptcs) k freshPtc)
+  sound-here =
+      let own = eqb k (b .turn .holder) in
+      let m = b .clock .crossings in
+      sound-read k own m (getD (b .ptcs) k freshPtc) (ptc-at (b .turn .holder) m (b .ptcs) k (sound-parts b (fit .sound) .eight))
 
   cycle-few : getD (b .ptcs) k freshPtc .cycle ≤ 2
-  unfolding soundPtc
-  cycle-few =
-      let p = getD (b .ptcs) k freshPtc in
-      let own = eqb k (b .turn .holder) in
-      let m = b .clock .crossings in
-      let a = both (soundState k (p .state) (p .wait)) (soundCycle own (p .state) (p .cycle) && (soundCounts m (p .counts) && leb (p .events) m)) sound-ptc in
-      let c = both (soundCycle own (p .state) (p .cycle)) (soundCounts m (p .counts) && leb (p .events) m) (a .1) in
-      leb-true (p .cycle) 2 (both (leb (p .cycle) 2) _ (c .0) .0)
+  cycle-few = let p = getD (b .ptcs) k freshPtc in leb-true (p .cycle) 2 (both (leb (p .cycle) 2) _ (sound-here .cycle) .0)
 
   sums-agree : CountsBalanced (b .clock .crossings) (getD (b .ptcs) k freshPtc .counts)
-  unfolding soundPtc
-  sums-agree =
-      let p = getD (b .ptcs) k freshPtc in
-      let own = eqb k (b .turn .holder) in
-      let m = b .clock .crossings in
-      let a = both (soundState k (p .state) (p .wait)) (soundCycle own (p .state) (p .cycle) && (soundCounts m (p .counts) && leb (p .events) m)) sound-ptc in
-      let c = both (soundCycle own (p .state) (p .cycle)) (soundCounts m (p .counts) && leb (p .events) m) (a .1) in
-      counts-read m (p .counts) (both (soundCounts m (p .counts)) (leb (p .events) m) (c .1) .0)
+  sums-agree = counts-read (b .clock .crossings) (getD (b .ptcs) k freshPtc .counts) (sound-here .counts)
 
 module _ {s : Settings} {log buffer : List ℕ} (t : Taken s log buffer) (k : ℕ) (low : k < 8) where
   abbrev rows : List ℕ
@@ -97,7 +79,7 @@ module _ {s : Settings} {log buffer : List ℕ} (t : Taken s log buffer) (k : �
   past-crossing : (i : ℕ) (c : Crossing log i) → Follows (reading i) (ptcIn s log i k)
       → Follows (pastCrossing s (lookAt s log rows k i) (reading i)) (ptcIn s log (suc i) k)
   past-crossing i c f =
-      let few = cycle-few (before i) (fit-at t i (omega (arith, c .among))) k low in
+      let few = cycle-few (before i) (fit-at t i (omega (arith, c .among))) k in
       let away : scheduleOf s .wte ≡ scheduleOf s .bc0 → ⊥ = λ e. times-apart s (t .checks) 0 9 (lit< tt) (lit< tt) (sym e) in
       let later : scheduleOf s .wte ≡ scheduleOf s .gap → ⊥ = λ e. times-apart s (t .checks) 8 9 (lit< tt) (lit< tt) (sym e) in
       rw (look-told i c, next-told t c k low)
@@ -118,8 +100,8 @@ module _ {s : Settings} {log buffer : List ℕ} (t : Taken s log buffer) (k : �
         → Follows (pastCommand (recAt log i) (rowAt rows i) k (reading i)) (ptcIn s log (suc i) k)
     to-other e f =
         let other : k ≡ getD (recAt log i) 1 0 → ⊥ = λ q. eqb-false (getD (recAt log i) 1 0) k e (sym q) in
-        rw (passed-by (recAt log i) (rowAt rows i) k (reading i) e, set-next, getD-set-other (before i .ptcs) (getD (recAt log i) 1 0) k (commandIn (before i) (recAt log i) .ptc) freshPtc other)
-        f
+        let same = getD-set-other (before i .ptcs) (getD (recAt log i) 1 0) k (commandIn (before i) (recAt log i) .ptc) freshPtc other in
+        rw (passed-by (recAt log i) (rowAt rows i) k (reading i) e, set-next, same) f
 
     to-this : eqb (getD (recAt log i) 1 0) k ≡ true → Follows (reading i) (ptcIn s log i k)
         → Follows (pastCommand (recAt log i) (rowAt rows i) k (reading i)) (ptcIn s log (suc i) k)
@@ -129,7 +111,8 @@ module _ {s : Settings} {log buffer : List ℕ} (t : Taken s log buffer) (k : �
         let inside : k < length (before i .ptcs) = omega (arith, fit-at t i (omega arith) .ptcs) in
         let got = command-follows (waitsOf (before i .settings)) (recAt log i) (rowAt rows i) k (ptcIn s log i k) (reading i) e
         (says-taken ∙ rw same) f in
-        rw (set-next, same, getD-set-same (before i .ptcs) k (commandedOf (waitsOf (before i .settings)) (getD (recAt log i) 2 0) (ptcIn s log i k) .ptc) freshPtc inside) got
+        let next = commandedOf (waitsOf (before i .settings)) (getD (recAt log i) 2 0) (ptcIn s log i k) .ptc in
+        rw (set-next, same, getD-set-same (before i .ptcs) k next freshPtc inside) got
 
   fresh-follows : Follows (reading 0) (ptcIn s log 0 k)
   unfolding readingOf ran freshBoard
@@ -149,7 +132,7 @@ module _ {s : Settings} {log buffer : List ℕ} (t : Taken s log buffer) (k : �
   -- ---- both sums, and one cause for each request
 
   sums-read : (i : ℕ) → i ≤ recordsIn log → CountsBalanced (before i .clock .crossings) (reading i .counts)
-  sums-read i h = rw (follows i h .counts) (sums-agree (before i) (fit-at t i h) k low)
+  sums-read i h = rw (follows i h .counts) (sums-agree (before i) (fit-at t i h) k)
 
   settles : (i : ℕ) → i ≤ recordsIn log → reading i .counts .requested ≡ settled (reading i .counts)
   settles i h = sums-read i h .requests .balance

@@ -143,7 +143,7 @@ fresh-ptc-sound : (k : ℕ) (own : Bool) (m : ℕ) → soundPtc k own m freshPtc
 unfolding soundPtc soundState
 fresh-ptc-sound k own m = and-yes _ _ (none-sound m) (le-leb 0 m (omega arith))
 
-ptc-at : (holder m : ℕ) (ps : List Ptc) (k : ℕ) → soundEight holder m ps ≡ true → soundAt holder m k (getD ps k freshPtc) ≡ true
+pub ptc-at : (holder m : ℕ) (ps : List Ptc) (k : ℕ) → soundEight holder m ps ≡ true → soundPtc k (eqb k holder) m (getD ps k freshPtc) ≡ true
 unfolding soundEight
 ptc-at holder m ps k e =
     ⊎-elim

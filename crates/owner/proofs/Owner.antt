@@ -2,7 +2,7 @@
 -- What a trigger says of its crossing is a law of one controller; at most one is sent, since every other controller than the holder sends none.
 use mathlib.Core.Path.{_≡_, refl, sym, _∙_}
 use mathlib.Core.Logic.{inl, inr, ⊎-elim}
-use mathlib.Core.Bool.{Bool, true, false, _&&_, false≢true}
+use mathlib.Core.Bool.{Bool, true, false, _&&_, _||_, false≢true}
 use mathlib.Core.List.{List}
 use Prim.Native.Nat.{ℕ, zero, suc, _+_, _≤_, _<_}
 use native.Mathlib.Omega.{arith}
@@ -11,7 +11,7 @@ use lib.Dec.{eqb}
 use lib.ListN.{getD}
 use Rattle.laws.specs.Base.{one}
 use Rattle.laws.proofs.Bools.{or-true, one-le}
-use Rattle.laws.proofs.Tests.{same-or-not}
+use Rattle.laws.proofs.Tests.{either, same-or-not}
 use Rattle.settings.specs.declared.Settings.{Settings}
 use Rattle.ptc.proofs.Triggers.{SentIs, CalIs, sent-is, cal-is, never-both}
 use Rattle.records.specs.Records.{recAt, askedIn}
@@ -43,10 +43,10 @@ apart-sum true true e = absurd (false≢true (sym e))
 apart-sum true false e = omega arith
 apart-sum false b e = omega (arith, one-le b)
 
-silent-sum : (a b : Bool) → (a ≡ true → ⊥) → (b ≡ true → ⊥) → one a + one b ≡ 0
-silent-sum true b p q = absurd (p refl)
-silent-sum false true p q = absurd (q refl)
-silent-sum false false p q = refl
+pub silent-sum : (a b : Bool) → a || b ≡ false → one a + one b ≡ 0
+silent-sum true b e = absurd (false≢true (sym e))
+silent-sum false true e = absurd (false≢true (sym e))
+silent-sum false false e = refl
 
 module _ {s : Settings} {log buffer : List ℕ} (t : Taken s log buffer) {i : ℕ} (c : Crossing log i) (k : ℕ) (low : k < 8) where
   abbrev row : List ℕ
@@ -97,7 +97,11 @@ module _ {s : Settings} {log buffer : List ℕ} (t : Taken s log buffer) {i : �
       (never-both (planOf s) (sceneIn s log i) k (classIn s log i k) (askedIn (getD (recAt log i) 2 0) k) (ptcIn s log i k)))
 
   none-else : (k ≡ holderIn s log i → ⊥) → one (sentIn row k) + one (calIn row k) ≡ 0
-  none-else n = silent-sum (sentIn row k) (calIn row k) (λ e. n (of-request e .holds)) (λ e. n (of-calibration e .holds))
+  none-else n =
+      ⊎-elim
+      (λ (e : sendsIn row k ≡ true). absurd (n (rightful-here e .holds)))
+      (silent-sum (sentIn row k) (calIn row k))
+      (either (sendsIn row k))
 
 pub one-at-most : {s : Settings} {log buffer : List ℕ} (t : Taken s log buffer) {i : ℕ} → Crossing log i
     → triggersOf (rowAt (whole s log buffer .rows) i) 8 ≤ 1

@@ -30,15 +30,15 @@ use Rattle.ptc.proofs.Balance.{counts-read, counted-sound, none-sound, 
 use Rattle.ptc.proofs.Cycles.{cycle-sound}
 
 -- the parts of the test
-record Sound (k : ℕ) (own : Bool) (m : ℕ) (p : Ptc) : Type 0 where
-  stands : soundState k (p .state) (p .wait) ≡ true
-  cycle : soundCycle own (p .state) (p .cycle) ≡ true
-  counts : soundCounts m (p .counts) ≡ true
-  events : p .events ≤ m
+pub record Sound (k : ℕ) (own : Bool) (m : ℕ) (p : Ptc) : Type 0 where
+  pub stands : soundState k (p .state) (p .wait) ≡ true
+  pub cycle : soundCycle own (p .state) (p .cycle) ≡ true
+  pub counts : soundCounts m (p .counts) ≡ true
+  pub events : p .events ≤ m
 
-read : (k : ℕ) (own : Bool) (m : ℕ) (p : Ptc) → soundPtc k own m p ≡ true → Sound k own m p
+pub sound-read : (k : ℕ) (own : Bool) (m : ℕ) (p : Ptc) → soundPtc k own m p ≡ true → Sound k own m p
 unfolding soundPtc
-read k own m p e =
+sound-read k own m p e =
     let a = both (soundState k (p .state) (p .wait)) _ e in
     let b = both (soundCycle own (p .state) (p .cycle)) _ (a .1) in
     let c = both (soundCounts m (p .counts)) _ (b .1) in
@@ -56,7 +56,7 @@ pub crossed-sound : (plan : Plan) (scene : Scene) (k class : ℕ) (asked own : B
     → soundPtc k own m p ≡ true → soundPtc k (eqb k (scene .holder)) (m + 1) (crossedOf plan scene k class asked p .ptc) ≡ true
 unfolding crossedOf
 crossed-sound plan scene k class asked own m p w e =
-    let s = read k own m p e in
+    let s = sound-read k own m p e in
     let at = plan .at in
     let number = scene .number in
     let now = eqb k (scene .holder) in
@@ -100,7 +100,7 @@ pub commanded-sound : (w : Waits) (k command : ℕ) (own : Bool) (m : ℕ) (p : 
     → soundPtc k own m (commandedOf w command p .ptc) ≡ true
 unfolding commandedOf
 commanded-sound w k command own m p waits h =
-    let s = read k own m p h in
+    let s = sound-read k own m p h in
     let busy = not (eqb (p .cycle) 0) in
     ⊎-elim
     (λ (t : takes command (p .state) busy ≡ true).
@@ -113,6 +113,6 @@ commanded-sound w k command own m p waits h =
 
 pub roomy : (k : ℕ) (own : Bool) (m : ℕ) (p : Ptc) → m < 2 ^ 41 → soundPtc k own m p ≡ true → Room p
 roomy k own m p h e =
-    let s = read k own m p e in
+    let s = sound-read k own m p e in
     let b = counts-read m (p .counts) (s .counts) in
     omega arith

@@ -30,7 +30,7 @@ use Rattle.logbook.specs.Whole.{Taken, Crossing, whole}
 use Rattle.logbook.proofs.Ground.{fit-at}
 use Rattle.logbook.proofs.Beams.{own-settings}
 use Rattle.logbook.proofs.Seen.{sceneIn, crossedIn, warns-told, fires-told}
-use Rattle.owner.proofs.Owner.{sent-says, cal-says, one-at-most}
+use Rattle.owner.proofs.Owner.{silent-sum, sent-says, cal-says, one-at-most}
 use Rattle.windows.specs.Windows.{ruleAt}
 
 -- ---- the triggers of a row, controller by controller
@@ -39,17 +39,12 @@ or-sum : (a b : Bool) → one (a || b) ≤ one a + one b
 or-sum true b = omega arith
 or-sum false b = omega arith
 
-silent : (a b : Bool) → a || b ≡ false → one a + one b ≡ 0
-silent true b e = absurd (false≢true (sym e))
-silent false true e = absurd (false≢true (sym e))
-silent false false e = refl
-
 module _ (row : List ℕ) where
   none-sent : (n : ℕ) → ((k : ℕ) → k < n → sendsIn row k ≡ false) → triggersOf row n ≡ 0
   unfolding triggersOf
   none-sent zero each = refl
   none-sent (suc n) each =
-      omega (arith, none-sent n (λ k h. each k (omega arith)), silent (sentIn row n) (calIn row n) (each n (omega arith)))
+      omega (arith, none-sent n (λ k h. each k (omega arith)), silent-sum (sentIn row n) (calIn row n) (each n (omega arith)))
 
   some-sent : (n k : ℕ) → k < n → sendsIn row k ≡ true → 1 ≤ triggersOf row n
   unfolding triggersOf
@@ -75,7 +70,7 @@ module _ (row : List ℕ) where
       ⊎-elim
       (λ (e : sendsIn row n ≡ true). record { who = n; low = omega arith; sends = e })
       (λ (e : sendsIn row n ≡ false).
-      let w = sender n (omega (arith, silent (sentIn row n) (calIn row n) e)) in
+      let w = sender n (omega (arith, silent-sum (sentIn row n) (calIn row n) e)) in
       record { who = w .who; low = omega (arith, w .low); sends = w .sends })
       (either (sendsIn row n))
 
