@@ -3,6 +3,7 @@
 use Rattle.settings.proofs.RoundTrip.{accepted-writes-back, written-reads-back}
 use Rattle.figures.proofs.Figures.{figures}
 use Rattle.cut.proofs.Cut.{cut}
+use Rattle.cut.proofs.Program.{program}
 use Rattle.owner.proofs.Owner.{owner}
 use Rattle.windows.proofs.Windows.{windows}
 use Rattle.balance.proofs.Balance.{balance}
@@ -20,6 +21,7 @@ promises =
       round-trips = record { accepted-writes-back = accepted-writes-back; written-reads-back = written-reads-back };
       figures = figures;
       cut = cut;
+      program = program;
       windows = windows;
       balance = balance;
       no-empty-program = no-empty-program;

@@ -9,6 +9,7 @@ use Rattle.settings.specs.Read.{readText}
 use Rattle.settings.specs.Write.{textOf, written}
 use Rattle.figures.specs.Figures.{Figures}
 use Rattle.cut.specs.Blocks.{Cut}
+use Rattle.cut.specs.Program.{Program}
 use Rattle.owner.specs.Owned.{Owner}
 use Rattle.windows.specs.Windows.{Windows}
 use Rattle.balance.specs.Balanced.{Balances}
@@ -34,6 +35,7 @@ pub record Promises : Type 0 where
   pub figures : Figures
   -- demand 3
   pub cut : Cut
+  pub program : Program
   pub windows : Windows
   pub balance : Balances
   -- and no program without work meets them

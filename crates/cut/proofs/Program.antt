@@ -1,0 +1,175 @@
+-- In blocks of 64 the program does what the log run whole does.
+-- After n blocks it has the outcome of the log's first n blocks run as one: the next block joins on, and is accepted when the longer part is.
+use mathlib.Core.Path.{_≡_, refl, ap, sym, _∙_}
+use mathlib.Core.Bool.{Bool, true, false, false≢true}
+use mathlib.Core.List.{List, _++_, append-assoc}
+use Prim.Native.Nat.{ℕ, zero, suc, _+_, _*_, _-_, _%_, _≤_, _<_}
+use native.Mathlib.Nat.{not-suc-le-zero}
+use native.Mathlib.Omega.{arith}
+use lib.Dec.{leb, eqb}
+use lib.ListN.{length, take, drop, length-append, length-drop}
+use lib.Seq.{length-take-le, take-all, take-at, drop-at, drop-drop, take-add}
+use Rattle.laws.specs.Base.{if}
+use Rattle.laws.proofs.Bools.{if-has}
+use Rattle.answer.specs.Told.{Told, succeeded, DONE, BOARD, LENGTH, ROOM, RECORD, LIFE}
+use Rattle.records.specs.Records.{firstIll, crossingsIn}
+use Rattle.records.specs.Refusal.{MOST, recordsIn, refusalOf, Ready}
+use Rattle.records.proofs.Laws.{all-formed, crossings-le}
+use Rattle.board.specs.declared.Board.{Board}
+use Rattle.board.specs.Run.{ran, rowsOf}
+use Rattle.board.specs.Sound.{soundBoard}
+use Rattle.board.specs.Block.{RanOut, answerOf, blockOf}
+use Rattle.board.proofs.Answers.{block-ready, ready-done, block-answer, block-done}
+use Rattle.board.proofs.Keeps.{Fit, ran-fit, rows-long}
+use Rattle.board.proofs.Settled.{sound-parts, within-life}
+use Rattle.replay.specs.Replay.{blocksIn, blockAt, laidOn, inBlocks}
+use Rattle.cut.proofs.Parts.{records-add, ran-parts, rows-parts, first-ready, rest-ready, both-ready}
+use Rattle.cut.specs.Blocks.{Whole}
+use Rattle.cut.specs.Program.{Program}
+
+-- a block that succeeds has no other answer than DONE
+abbrev Settles : Told → Type 0
+Settles t = succeeded t ≡ true → t ≡ DONE
+
+settles : (t : Bool) (x y : Told) → succeeded y ≡ false → Settles x → Settles (if t x y)
+settles true x y n p d = p d
+settles false x y n p d = absurd (false≢true (sym n ∙ d))
+
+accepted : (b : Board) (log : List ℕ) (room : ℕ) → Settles (answerOf b log room)
+unfolding answerOf refusalOf
+accepted b log room =
+    let n = recordsIn log in
+    settles (soundBoard b) _ BOARD refl
+    (settles (eqb (length log % 24) 0) _ LENGTH refl
+    (settles (leb (12 * n) room) _ (ROOM (12 * n)) refl
+    (settles (eqb (firstIll n log) n) _ (RECORD (firstIll n log)) refl
+    (settles (leb (b .clock .crossings + crossingsIn n log) MOST) _ LIFE refl (λ d. refl)))))
+
+module _ (b : Board) (rows : List ℕ) (fit : Fit b) where
+  -- a part of a log, run in one block
+  abbrev runRows : List ℕ → List ℕ
+  runRows x = rowsOf (recordsIn x) b x ++ drop (12 * recordsIn x) rows
+
+  abbrev runOut : List ℕ → RanOut
+  runOut x = record { answer = DONE; board = ran (recordsIn x) b x; rows = runRows x }
+
+  rows-left : (x : List ℕ) → drop (12 * recordsIn x) (runRows x) ≡ drop (12 * recordsIn x) rows
+  rows-left x = drop-at (rowsOf (recordsIn x) b x) _ (12 * recordsIn x) (rows-long (recordsIn x) b x (fit .ptcs))
+
+  rows-kept : (x : List ℕ) → take (12 * recordsIn x) (runRows x) ≡ rowsOf (recordsIn x) b x
+  rows-kept x = take-at (rowsOf (recordsIn x) b x) _ (12 * recordsIn x) (rows-long (recordsIn x) b x (fit .ptcs))
+
+  -- the next part's own outcome, over the board and the rows that the first left
+  abbrev nextOut : List ℕ → List ℕ → RanOut
+  nextOut x y = blockOf (ran (recordsIn x) b x) y (drop (12 * recordsIn x) (runRows x))
+
+  joins : (x y : List ℕ) → length x % 24 ≡ 0 → length y % 24 ≡ 0 → Ready (b .clock .crossings) (x ++ y) (length rows)
+      → laidOn (12 * recordsIn x) (runRows x) (nextOut x y) ≡ runOut (x ++ y)
+  joins x y between end r =
+      let m = recordsIn x in
+      let add = records-add b x y between end in
+      let room : 12 * recordsIn y ≤ length (drop (12 * m) rows) = rw length-drop (omega (arith, r .space, add)) in
+      let before = first-ready b x y between end (length rows) r (length rows) (omega (arith, r .space, add)) in
+      let after = ran-fit m b x fit (before .life) m (omega arith) in
+      let next = rest-ready b x y between end (length rows) r (length (drop (12 * m) rows)) room in
+      let done = block-answer (ran m b x) y (drop (12 * m) rows) ∙ ready-done (ran m b x) y (length (drop (12 * m) rows)) (after .sound) next in
+      let lengths : 12 * m + 12 * recordsIn y ≡ 12 * recordsIn (x ++ y) = omega (arith, add) in
+      let left : drop (12 * recordsIn y) (drop (12 * m) rows) ≡ drop (12 * recordsIn (x ++ y)) rows
+      = drop-drop (12 * recordsIn y) (12 * m) rows ∙ ap (λ (k : ℕ). drop k rows) lengths in
+      rw (rows-left x, block-done (ran m b x) y (drop (12 * m) rows) done, rows-kept x, left, ran-parts b x y between end, rows-parts b x y between end, append-assoc)
+
+  module _ (log : List ℕ) where
+    -- the log's first n blocks
+    abbrev upTo : ℕ → List ℕ
+    upTo n = take (1536 * n) log
+
+    up-to-next : (n : ℕ) → upTo (suc n) ≡ upTo n ++ blockAt log n
+    up-to-next n =
+        let e : 1536 * suc n ≡ 1536 * n + 1536 = omega arith in
+        ap (λ (k : ℕ). take k log) e ∙ take-add (1536 * n) 1536 log
+
+    up-to-long : (n : ℕ) → n < blocksIn log → length (upTo n) ≡ 1536 * n
+    up-to-long n h = length-take-le (1536 * n) log (omega (arith, h))
+
+    up-to-all : upTo (blocksIn log) ≡ log
+    up-to-all = take-all (1536 * blocksIn log) log (omega arith)
+
+    -- after n blocks: the outcome of the log's first n blocks, where those are ready
+    none-done : inBlocks 0 b log rows ≡ runOut (upTo 0)
+    unfolding inBlocks ran rowsOf
+    none-done = refl
+
+    one-more : (n : ℕ) → length (upTo n) ≡ 1536 * n → inBlocks n b log rows ≡ runOut (upTo n) → length (blockAt log n) % 24 ≡ 0
+        → Ready (b .clock .crossings) (upTo n ++ blockAt log n) (length rows) → inBlocks (suc n) b log rows ≡ runOut (upTo n ++ blockAt log n)
+    unfolding inBlocks
+    one-more n long so end r =
+        let between : length (upTo n) % 24 ≡ 0 = omega (arith, long) in
+        let at : 768 * n ≡ 12 * recordsIn (upTo n) = omega (arith, long) in
+        rw (so, at) (joins (upTo n) (blockAt log n) between end r)
+
+    as-one : (n : ℕ) → n ≤ blocksIn log → Ready (b .clock .crossings) (upTo n) (length rows) → inBlocks n b log rows ≡ runOut (upTo n)
+    as-one zero h r = none-done
+    as-one (suc n) h r =
+        let x = upTo n in
+        let y = blockAt log n in
+        let long = up-to-long n h in
+        let between : length x % 24 ≡ 0 = omega (arith, long) in
+        let split = rw (up-to-next n) at r in
+        let end : length y % 24 ≡ 0 = omega (arith, between, split .whole, length-append x y) in
+        let room : 12 * recordsIn x ≤ length rows = omega (arith, split .space, records-add b x y between end) in
+        let before = first-ready b x y between end (length rows) split (length rows) room in
+        rw (up-to-next n) (one-more n long (as-one n (omega arith) before) end split)
+
+    -- the next block's acceptance makes the longer part ready
+    went-on : (n : ℕ) → n < blocksIn log → Ready (b .clock .crossings) (upTo n) (length rows)
+        → succeeded (nextOut (upTo n) (blockAt log n) .answer) ≡ true → Ready (b .clock .crossings) (upTo (suc n)) (length rows)
+    went-on n h before d =
+        let x = upTo n in
+        let y = blockAt log n in
+        let left = drop (12 * recordsIn x) (runRows x) in
+        let after = ran (recordsIn x) b x in
+        let done = accepted after y (length left) (ap succeeded (sym (block-answer after y left)) ∙ d) in
+        let next = block-ready after y (length left) done .1 in
+        let room : length left ≡ length rows - 12 * recordsIn x = rw (rows-left x) (length-drop (12 * recordsIn x) rows) in
+        let between : length x % 24 ≡ 0 = omega (arith, before .whole) in
+        let end : length y % 24 ≡ 0 = omega (arith, next .whole) in
+        let space : 12 * recordsIn x + 12 * recordsIn y ≤ length rows = omega (arith, before .space, next .space, room) in
+        rw (up-to-next n) (both-ready b x y between end (length rows) (length left) (length rows) before next space)
+
+    -- so the first n blocks are ready wherever they went through
+    went-through : (n : ℕ) → n ≤ blocksIn log → succeeded (inBlocks n b log rows .answer) ≡ true → Ready (b .clock .crossings) (upTo n) (length rows)
+    unfolding inBlocks
+    went-through zero h d =
+        let life = within-life _ (b .clock) (sound-parts b (fit .sound) .clock) in
+        record {
+          whole = refl;
+          space = omega arith;
+          formed = all-formed 0 (upTo 0) (λ i l. absurd (not-suc-le-zero l));
+          life = omega (arith, life, crossings-le 0 (upTo 0));
+        }
+    went-through (suc n) h d =
+        let o = inBlocks n b log rows in
+        let y = blockAt log n in
+        let both = if-has (λ (p : RanOut). succeeded (p .answer) ≡ true → (succeeded (o .answer) ≡ true) × (succeeded (blockOf (o .board) y (drop (768 * n) (o .rows)) .answer) ≡ true))
+        (succeeded (o .answer)) _ _ (λ e f. (e, f)) (λ e f. absurd (false≢true (sym e ∙ f))) d in
+        let before = went-through n (omega arith) (both .0) in
+        let at : 768 * n ≡ 12 * recordsIn (upTo n) = omega (arith, up-to-long n h) in
+        went-on n h before (rw (as-one n (omega arith) before, at) at both .1)
+
+fit-of : (b : Board) → Whole b → soundBoard b ≡ true → Fit b
+fit-of b whole sound = record { ptcs = whole .ptcs; marks = whole .marks; sound = sound }
+
+pub program : Program
+program = record { same = same; only = only }
+  where
+    same : (b : Board) (log rows : List ℕ) → Whole b → blockOf b log rows .answer ≡ DONE → inBlocks (blocksIn log) b log rows ≡ blockOf b log rows
+    same b log rows whole done =
+        let start = block-ready b log (length rows) (sym (block-answer b log rows) ∙ done) in
+        let all = up-to-all b rows (fit-of b whole (start .0)) log in
+        rw (as-one b rows (fit-of b whole (start .0)) log (blocksIn log) (omega arith) (rw all (start .1)), all, block-done b log rows done)
+
+    only : (b : Board) (log rows : List ℕ) → Whole b → soundBoard b ≡ true → inBlocks (blocksIn log) b log rows .answer ≡ DONE → blockOf b log rows .answer ≡ DONE
+    only b log rows whole sound done =
+        let fit = fit-of b whole sound in
+        let r = went-through b rows fit log (blocksIn log) (omega arith) (rw done refl) in
+        block-answer b log rows ∙ ready-done b log (length rows) sound (rw (up-to-all b rows fit log) at r)
