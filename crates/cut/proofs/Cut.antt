@@ -1,22 +1,19 @@
 -- The cut: in blocks or whole, the same rows and the same closing board, and no block is refused.
 -- By induction on the blocks: the first block's records are the log's first, and the rest run on from the board after them.
-use mathlib.Core.Path.{_≡_, refl, ap, ap₂, sym, _∙_}
+use mathlib.Core.Path.{_≡_, refl, sym, _∙_}
 use mathlib.Core.Bool.{true}
 use mathlib.Core.List.{List, [], _∷_, _++_}
-use Prim.Native.Nat.{ℕ, zero, suc, _+_, _*_, _%_, _≤_, _<_}
+use Prim.Native.Nat.{ℕ, _*_, _%_, _≤_}
 use native.Mathlib.Omega.{arith}
-use lib.ListN.{length, take, drop, length-append, length-drop}
-use lib.Seq.{take-append-le, drop-append-le, take-at, drop-at}
+use lib.ListN.{length, take, drop, length-append}
+use lib.Seq.{take-at}
 use Rattle.answer.specs.Told.{DONE}
-use Rattle.records.specs.Records.{recAt, well, crossingsIn}
-use Rattle.records.specs.Refusal.{MOST, recordsIn, Ready}
-use Rattle.records.proofs.Laws.{rec-cut, well-at, all-formed}
+use Rattle.records.specs.Refusal.{recordsIn, Ready}
 use Rattle.board.specs.declared.Board.{Board}
-use Rattle.board.specs.Run.{stepped, rowOf, ran, rowsOf}
+use Rattle.board.specs.Run.{ran, rowsOf}
 use Rattle.board.specs.Block.{blockOf}
 use Rattle.board.proofs.Answers.{block-ready, ready-done, block-answer, block-done}
-use Rattle.board.proofs.Cut.{cut-board, cut-rows}
-use Rattle.board.proofs.Keeps.{Fit, ran-count, ran-fit, rows-long}
+use Rattle.board.proofs.Keeps.{Fit, ran-fit, rows-long}
 use Rattle.cut.proofs.Parts.{records-add, ran-parts, rows-parts, first-ready, rest-ready}
 use Rattle.cut.specs.Blocks.{Lent, AllFit, uncut, Outcome, inTurn, atOnce, Cut}
 

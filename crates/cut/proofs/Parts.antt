@@ -10,7 +10,7 @@ use lib.ListN.{length, drop, length-append, length-drop}
 use lib.Seq.{take-append-le, drop-append-le, drop-at}
 use Rattle.laws.proofs.Tests.{lt-or-ge}
 use Rattle.records.specs.Records.{recAt, well, crossingsIn}
-use Rattle.records.specs.Refusal.{MOST, recordsIn, Ready}
+use Rattle.records.specs.Refusal.{recordsIn, Ready}
 use Rattle.records.proofs.Laws.{rec-cut, well-at, all-formed}
 use Rattle.board.specs.declared.Board.{Board}
 use Rattle.board.specs.Run.{stepped, rowOf, ran, rowsOf}
