@@ -98,12 +98,12 @@ module _ (b : Board) (x y : List ℕ) (between : length x % 24 ≡ 0) (end : len
       record {
         whole = whole-long;
         space = omega (arith, h, records-add);
-        formed = all-formed (recordsIn (x ++ y)) (x ++ y) formed-at;
+        formed = all-formed (recordsIn (x ++ y)) (x ++ y) in-either;
         life = omega (arith, lives-add, q .life);
       }
     where
-      formed-at : (i : ℕ) → i < recordsIn (x ++ y) → well (recAt (x ++ y) i) ≡ true
-      formed-at i h =
+      in-either : (i : ℕ) → i < recordsIn (x ++ y) → well (recAt (x ++ y) i) ≡ true
+      in-either i h =
           ⊎-elim
           (λ (l : i < recordsIn x). ap well (rec-first i l) ∙ well-at (recordsIn x) x (r .formed) i l)
           (λ (g : recordsIn x ≤ i).

@@ -1,49 +1,29 @@
 -- In blocks of 64 the program does what the log run whole does.
 -- After n blocks it has the outcome of the log's first n blocks run as one: the next block joins on, and is accepted when the longer part is.
 use mathlib.Core.Path.{_≡_, refl, ap, sym, _∙_}
-use mathlib.Core.Bool.{Bool, true, false, false≢true}
+use mathlib.Core.Bool.{true, false≢true}
 use mathlib.Core.List.{List, _++_, append-assoc}
 use Prim.Native.Nat.{ℕ, zero, suc, _+_, _*_, _-_, _%_, _≤_, _<_}
 use native.Mathlib.Nat.{not-suc-le-zero}
 use native.Mathlib.Omega.{arith}
-use lib.Dec.{leb, eqb}
 use lib.ListN.{length, take, drop, length-append, length-drop}
-use lib.Seq.{length-take-le, take-all, take-at, drop-at, drop-drop, take-add}
-use Rattle.laws.specs.Base.{if}
+use lib.Seq.{length-take-le, take-all, drop-drop, take-add}
 use Rattle.laws.proofs.Bools.{if-has}
-use Rattle.answer.specs.Told.{Told, succeeded, DONE, BOARD, LENGTH, ROOM, RECORD, LIFE}
-use Rattle.records.specs.Records.{firstIll, crossingsIn}
-use Rattle.records.specs.Refusal.{MOST, recordsIn, refusalOf, Ready}
+use Rattle.answer.specs.Told.{succeeded, DONE}
+use Rattle.records.specs.Refusal.{recordsIn, Ready}
 use Rattle.records.proofs.Laws.{all-formed, crossings-le}
 use Rattle.board.specs.declared.Board.{Board}
 use Rattle.board.specs.Run.{ran, rowsOf}
 use Rattle.board.specs.Sound.{soundBoard}
-use Rattle.board.specs.Block.{RanOut, answerOf, blockOf}
-use Rattle.board.proofs.Answers.{block-ready, ready-done, block-answer, block-done}
-use Rattle.board.proofs.Keeps.{Fit, ran-fit, rows-long}
+use Rattle.board.specs.Block.{RanOut, blockOf}
+use Rattle.board.proofs.Answers.{block-ready, block-answer, block-done}
+use Rattle.board.proofs.Keeps.{Fit, ran-fit}
 use Rattle.board.proofs.Settled.{sound-parts, within-life}
 use Rattle.replay.specs.Replay.{blocksIn, blockAt, laidOn, inBlocks}
+use Rattle.cut.proofs.Accepted.{fit-of, accepts, accepted, rows-taken, rows-past}
 use Rattle.cut.proofs.Parts.{records-add, ran-parts, rows-parts, first-ready, rest-ready, both-ready}
 use Rattle.cut.specs.Blocks.{Whole}
 use Rattle.cut.specs.Program.{Program}
-
--- a block that succeeds has no other answer than DONE
-abbrev Settles : Told → Type 0
-Settles t = succeeded t ≡ true → t ≡ DONE
-
-settles : (t : Bool) (x y : Told) → succeeded y ≡ false → Settles x → Settles (if t x y)
-settles true x y n p d = p d
-settles false x y n p d = absurd (false≢true (sym n ∙ d))
-
-accepted : (b : Board) (log : List ℕ) (room : ℕ) → Settles (answerOf b log room)
-unfolding answerOf refusalOf
-accepted b log room =
-    let n = recordsIn log in
-    settles (soundBoard b) _ BOARD refl
-    (settles (eqb (length log % 24) 0) _ LENGTH refl
-    (settles (leb (12 * n) room) _ (ROOM (12 * n)) refl
-    (settles (eqb (firstIll n log) n) _ (RECORD (firstIll n log)) refl
-    (settles (leb (b .clock .crossings + crossingsIn n log) MOST) _ LIFE refl (λ d. refl)))))
 
 module _ (b : Board) (rows : List ℕ) (fit : Fit b) where
   -- a part of a log, run in one block
@@ -54,10 +34,7 @@ module _ (b : Board) (rows : List ℕ) (fit : Fit b) where
   runOut x = record { answer = DONE; board = ran (recordsIn x) b x; rows = runRows x }
 
   rows-left : (x : List ℕ) → drop (12 * recordsIn x) (runRows x) ≡ drop (12 * recordsIn x) rows
-  rows-left x = drop-at (rowsOf (recordsIn x) b x) _ (12 * recordsIn x) (rows-long (recordsIn x) b x (fit .ptcs))
-
-  rows-kept : (x : List ℕ) → take (12 * recordsIn x) (runRows x) ≡ rowsOf (recordsIn x) b x
-  rows-kept x = take-at (rowsOf (recordsIn x) b x) _ (12 * recordsIn x) (rows-long (recordsIn x) b x (fit .ptcs))
+  rows-left x = rows-past (recordsIn x) b x (drop (12 * recordsIn x) rows) (fit .ptcs)
 
   -- the next part's own outcome, over the board and the rows that the first left
   abbrev nextOut : List ℕ → List ℕ → RanOut
@@ -72,11 +49,12 @@ module _ (b : Board) (rows : List ℕ) (fit : Fit b) where
       let before = first-ready b x y between end (length rows) r (length rows) (omega (arith, r .space, add)) in
       let after = ran-fit m b x fit (before .life) m (omega arith) in
       let next = rest-ready b x y between end (length rows) r (length (drop (12 * m) rows)) room in
-      let done = block-answer (ran m b x) y (drop (12 * m) rows) ∙ ready-done (ran m b x) y (length (drop (12 * m) rows)) (after .sound) next in
+      let done = accepts (ran m b x) y (drop (12 * m) rows) (after .sound) next in
+      let kept = rows-taken m b x (drop (12 * m) rows) (fit .ptcs) in
       let lengths : 12 * m + 12 * recordsIn y ≡ 12 * recordsIn (x ++ y) = omega (arith, add) in
       let left : drop (12 * recordsIn y) (drop (12 * m) rows) ≡ drop (12 * recordsIn (x ++ y)) rows
       = drop-drop (12 * recordsIn y) (12 * m) rows ∙ ap (λ (k : ℕ). drop k rows) lengths in
-      rw (rows-left x, block-done (ran m b x) y (drop (12 * m) rows) done, rows-kept x, left, ran-parts b x y between end, rows-parts b x y between end, append-assoc)
+      rw (rows-left x, block-done (ran m b x) y (drop (12 * m) rows) done, kept, left, ran-parts b x y between end, rows-parts b x y between end, append-assoc)
 
   module _ (log : List ℕ) where
     -- the log's first n blocks
@@ -156,9 +134,6 @@ module _ (b : Board) (rows : List ℕ) (fit : Fit b) where
         let at : 768 * n ≡ 12 * recordsIn (upTo n) = omega (arith, up-to-long n h) in
         went-on n h before (rw (as-one n (omega arith) before, at) at both .1)
 
-fit-of : (b : Board) → Whole b → soundBoard b ≡ true → Fit b
-fit-of b whole sound = record { ptcs = whole .ptcs; marks = whole .marks; sound = sound }
-
 pub program : Program
 program = record { same = same; only = only }
   where
@@ -172,4 +147,4 @@ program = record { same = same; only = only }
     only b log rows whole sound done =
         let fit = fit-of b whole sound in
         let r = went-through b rows fit log (blocksIn log) (omega arith) (rw done refl) in
-        block-answer b log rows ∙ ready-done b log (length rows) sound (rw (up-to-all b rows fit log) at r)
+        accepts b log rows sound (rw (up-to-all b rows fit log) at r)

@@ -3,7 +3,7 @@
 use mathlib.Core.Path.{_≡_, ap, _∙_}
 use mathlib.Core.List.{List}
 use Prim.Native.Nat.{ℕ}
-use lib.ListN.{length, replicate}
+use lib.ListN.{replicate}
 use Rattle.laws.specs.Base.{allB, firstNot}
 use Rattle.answer.specs.Told.{DONE, LENGTH, RECORD}
 use Rattle.settings.specs.Read.{standard}
@@ -12,8 +12,9 @@ use Rattle.records.specs.Records.{wellCrossing, wellCommand, well, crossingsIn}
 use Rattle.records.specs.Refusal.{recordsIn, refusalOf}
 use Rattle.board.specs.Fresh.{freshBoard}
 use Rattle.board.specs.Block.{RanOut, answerOf, blockOf}
-use Rattle.board.proofs.Answers.{block-answer, block-done, ready-done}
+use Rattle.board.proofs.Answers.{block-answer, block-done}
 use Rattle.board.proofs.Keeps.{fresh-sound, ran-count}
+use Rattle.cut.proofs.Accepted.{accepts}
 use Rattle.cut.proofs.Cut.{cut}
 use Rattle.balance.proofs.Balance.{balance}
 use Rattle.promises.specs.Programs.{crossing, shortened, damaged, fresh, NoEmptyProgram}
@@ -38,7 +39,7 @@ refuses-damaged = block-answer fresh damaged (replicate 12 0) ∙ answers damage
 pub no-empty-program : NoEmptyProgram
 no-empty-program =
     record {
-      accepts = λ b log rows sound r. block-answer b log rows ∙ ready-done b log (length rows) sound r;
+      accepts = accepts;
       accepts-crossing = accepts-crossing;
       refuses-shortened = refuses-shortened;
       refuses-damaged = refuses-damaged;
