@@ -7,13 +7,14 @@ use mathlib.Core.List.{List, [], _∷_, _++_}
 use Prim.Native.Nat.{ℕ, zero, suc, _+_, _≤_, _<_}
 use native.Mathlib.Nat.{zero-add, add-zero, add-suc, suc-add}
 use native.Mathlib.Omega.{arith}
-use borrow.Author.Tests.{leb-true, eqb-true, eqb-false}
+use borrow.Author.Tests.{le-leb, leb-true, eqb-true, eqb-false}
 use lib.Dec.{leb, eqb, lit<}
-use lib.ListN.{length, getD, set, getD-replicate}
+use lib.ListN.{length, drop, getD, set, getD-replicate}
 use lib.Seq.{getD-set-same, getD-set-other}
 use Rattle.laws.specs.Base.{one, mapI}
 use Rattle.laws.proofs.Bools.{both}
 use Rattle.laws.proofs.Tests.{either}
+use Rattle.answer.specs.Told.{DONE}
 use Rattle.text.specs.Lines.{linesText}
 use Rattle.keys.specs.Report.{commonKeys}
 use Rattle.settings.specs.declared.Settings.{Settings}
@@ -29,18 +30,21 @@ use Rattle.records.specs.Refusal.{recordsIn}
 use Rattle.board.specs.declared.Board.{Board}
 use Rattle.board.specs.Command.{freshPtc, commandIn, boardCommanded, rowCommanded}
 use Rattle.board.specs.Run.{stepped, rowOf, ran}
+use Rattle.board.specs.Sound.{soundBoard}
 use Rattle.board.specs.Fresh.{freshBoard}
 use Rattle.board.proofs.Settled.{sound-parts}
 use Rattle.board.proofs.Keeps.{Fit, ptc-at}
-use Rattle.report.specs.Report.{commonValues, blockOf, blocksFrom, reportText}
+use Rattle.report.specs.Report.{commonValues, blockOf, blocksFrom, reportText, reportAnswer, reported}
 use Rattle.logbook.specs.Row.{rowAt, takenIn}
 use Rattle.logbook.specs.Whole.{Taken, Crossing, whole}
 use Rattle.logbook.proofs.Decoding.{row-taken}
 use Rattle.logbook.proofs.Ground.{ground, fit-at, row-at}
-use Rattle.logbook.proofs.Beams.{own-settings, number-told, holder-told}
-use Rattle.logbook.proofs.Seen.{sceneIn, ptcIn, classIn, code-told, sent-told, cal-told, runs-told, next-told}
+use Rattle.logbook.proofs.Beams.{own-settings}
+use Rattle.logbook.proofs.Seen.{sceneIn, ptcIn, classIn, crossedIn, code-told, sent-told, cal-told, runs-told, warns-told, next-told}
+use Rattle.slots.proofs.Slots.{number-seen, holder-seen}
+use Rattle.windows.proofs.Windows.{clear-told}
 use Rattle.balance.specs.Reading.{Reading, lookAt, pastCrossing, pastCommand, counted, readingOf}
-use Rattle.balance.specs.Balanced.{settled, shownAs, read, Balanced, Reported, Balances}
+use Rattle.balance.specs.Balanced.{settled, shownAs, read, Balanced, readOff, Reported, Balances}
 use Rattle.balance.proofs.Steps.{Follows, lookOf, crossing-follows, command-follows, passed-by}
 
 -- ---- what a sound board says of controller k
@@ -70,20 +74,36 @@ module _ {s : Settings} {log buffer : List ℕ} (t : Taken s log buffer) (k : �
 
   -- ---- the reading follows the controller
 
-  look-told : (i : ℕ) (c : Crossing log i)
+  pub look-told : (i : ℕ) (c : Crossing log i)
       → lookAt s log rows k i ≡ lookOf s (sceneIn s log i) k (classIn s log i k) (askedIn (getD (recAt log i) 2 0) k) (ptcIn s log i k)
   unfolding lookAt
   look-told i c =
-      rw (sent-told t c k low, cal-told t c k low, code-told t c k low, runs-told t c k low, ← holder-told s log i, ← number-told s log i)
+      rw (
+        sent-told t c k low,
+        cal-told t c k low,
+        code-told t c k low,
+        runs-told t c k low,
+        warns-told t c k low,
+        ← clear-told t c (crossedIn s log i k .ptc .state),
+        ← holder-seen t c,
+        ← number-seen t c,
+      )
+
+  -- at at_wte no other code is due, and a cycle has three values
+  pub away : scheduleOf s .wte ≡ scheduleOf s .bc0 → ⊥
+  away e = times-apart s (t .checks) 0 9 (lit< tt) (lit< tt) (sym e)
+
+  pub later : scheduleOf s .wte ≡ scheduleOf s .gap → ⊥
+  later e = times-apart s (t .checks) 8 9 (lit< tt) (lit< tt) (sym e)
+
+  pub few : (i : ℕ) → Crossing log i → ptcIn s log i k .cycle ≤ 2
+  few i c = cycle-few (before i) (fit-at t i (omega (arith, c .among))) k
 
   past-crossing : (i : ℕ) (c : Crossing log i) → Follows (reading i) (ptcIn s log i k)
       → Follows (pastCrossing s (lookAt s log rows k i) (reading i)) (ptcIn s log (suc i) k)
   past-crossing i c f =
-      let few = cycle-few (before i) (fit-at t i (omega (arith, c .among))) k in
-      let away : scheduleOf s .wte ≡ scheduleOf s .bc0 → ⊥ = λ e. times-apart s (t .checks) 0 9 (lit< tt) (lit< tt) (sym e) in
-      let later : scheduleOf s .wte ≡ scheduleOf s .gap → ⊥ = λ e. times-apart s (t .checks) 8 9 (lit< tt) (lit< tt) (sym e) in
       rw (look-told i c, next-told t c k low)
-      (crossing-follows s (sceneIn s log i) k (classIn s log i k) (askedIn (getD (recAt log i) 2 0) k) (ptcIn s log i k) away later few (reading i) f)
+      (crossing-follows s (sceneIn s log i) k (classIn s log i k) (askedIn (getD (recAt log i) 2 0) k) (ptcIn s log i k) away later (few i c) (reading i) f)
 
   module _ (i : ℕ) (h : i < recordsIn log) (kind : isCrossing (recAt log i) ≡ false) where
     says-taken : takenIn (rowAt rows i) ≡ commandIn (before i) (recAt log i) .taken
@@ -118,7 +138,7 @@ module _ {s : Settings} {log buffer : List ℕ} (t : Taken s log buffer) (k : �
   unfolding readingOf ran freshBoard
   fresh-follows = rw (getD-replicate {A = Ptc} 8 k freshPtc freshPtc low) (record { calibrating = refl; counts = refl; events = refl })
 
-  follows : (i : ℕ) → i ≤ recordsIn log → Follows (reading i) (ptcIn s log i k)
+  pub follows : (i : ℕ) → i ≤ recordsIn log → Follows (reading i) (ptcIn s log i k)
   unfolding readingOf
   follows zero h = fresh-follows
   follows (suc i) h =
@@ -178,9 +198,10 @@ blocks-same s f j (p ∷ ps) each =
     let rest = blocks-same s f (suc j) ps (λ k h. rw (suc-add, ← add-suc) (each (suc k) (omega arith))) in
     rw (first, rest)
 
-report-same : {s : Settings} {log buffer : List ℕ} (t : Taken s log buffer) → Reported s log (whole s log buffer .rows) (whole s log buffer .board)
+text-told : {s : Settings} {log buffer : List ℕ} → Taken s log buffer
+    → reportText (whole s log buffer .board) ≡ readOff s log (whole s log buffer .rows) (whole s log buffer .board)
 unfolding reportText
-report-same {s} {log} {buffer} t =
+text-told {s} {log} {buffer} t =
     let closing = whole s log buffer .board in
     let own : closing .settings ≡ s = rw (ground t .closing) (own-settings s log (recordsIn log)) in
     let long : length (closing .ptcs) ≡ 8 = rw (ground t .closing) (fit-at t (recordsIn log) (omega arith) .ptcs) in
@@ -192,5 +213,17 @@ report-same {s} {log} {buffer} t =
     (closing-counts t k (rw long at h)) (closing-events t k (rw long at h)))) in
     rw own (ap (λ (l : List ℕ). linesText commonKeys (commonValues closing) ++ l) blocks)
 
+-- a board that has run a log is sound, so its report is refused for nothing but room
+report-written : {s : Settings} {log buffer : List ℕ} → Taken s log buffer → (out : List ℕ) → length (reportText (whole s log buffer .board)) ≤ length out
+    → reported (whole s log buffer .board) out
+    ≡ record { answer = DONE; buffer = reportText (whole s log buffer .board) ++ drop (length (reportText (whole s log buffer .board))) out }
+unfolding reported reportAnswer
+report-written {s} {log} {buffer} t out h =
+    let sound : soundBoard (whole s log buffer .board) ≡ true = rw (ground t .closing) (fit-at t (recordsIn log) (omega arith) .sound) in
+    rw (sound, le-leb _ _ h)
+
+report-read-off : {s : Settings} {log buffer : List ℕ} → Taken s log buffer → Reported s log (whole s log buffer .rows) (whole s log buffer .board)
+report-read-off t out h = rw (text-told t) at (report-written t out (rw (text-told t) h))
+
 pub balance : Balances
-balance s log buffer t = record { each = balanced t; reported = report-same t }
+balance s log buffer t = record { each = balanced t; reported = report-read-off t }

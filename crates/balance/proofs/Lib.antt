@@ -1,3 +1,4 @@
 pub mod Showing
 pub mod Steps
 pub mod Balance
+pub mod Exact

@@ -20,10 +20,9 @@ use Rattle.states.specs.Commands.{START, CALIBRATE, takes}
 use Rattle.ptc.specs.declared.Ptc.{Ptc}
 use Rattle.ptc.specs.declared.Scene.{Scene}
 use Rattle.ptc.specs.declared.counts.Counts.{Counts}
-use Rattle.ptc.specs.declared.counts.Lost.{Lost}
 use Rattle.ptc.specs.declared.counts.Calibrations.{Calibrations}
 use Rattle.ptc.specs.Cycle.{NONE, OPEN, keptOf, openedOf, asksOf}
-use Rattle.ptc.specs.Counts.{inGap, fateOf, lostTo, requestedOf, calibratedOf, noCounts}
+use Rattle.ptc.specs.Counts.{SENT, fateOf, lostTo, requestedOf, calibratedOf, noCounts}
 use Rattle.ptc.specs.Crossing.{freeIn, crossedOf}
 use Rattle.ptc.specs.Command.{armedPtc, ledPtc, commandedOf}
 use Rattle.board.specs.Kit.{planOf}
@@ -67,47 +66,27 @@ ends-cases here c = ⊎-elim (λ (e : eqb c 2 ≡ true). rw e (open-then here c 
 
 -- ---- the counts
 
--- a request's fate, and the cause that a reading finds for one that was not sent
-abbrev fateBy : Bool → Bool → Bool → Bool → Bool → ℕ
-fateBy runs own gap busy free = if runs (if own (if gap 3 (if busy 4 (if free 0 5))) 2) 1
-
-abbrev causeBy : Bool → Bool → Bool → Bool → ℕ
-causeBy runs own gap busy = if runs (if own (if gap 3 (if busy 4 5)) 2) 1
-
-none-lost : (l : Lost) → l ≡ lostTo 0 l
-unfolding lostTo
-none-lost l = simp add-zero
-
-lost-cases : (runs own gap busy free : Bool) (l : Lost)
-    → if (not (eqb (fateBy runs own gap busy free) 0)) (lostTo (causeBy runs own gap busy) l) l ≡ lostTo (fateBy runs own gap busy free) l
-lost-cases false own gap busy free l = refl
-lost-cases true false gap busy free l = refl
-lost-cases true true true busy free l = refl
-lost-cases true true false true free l = refl
-lost-cases true true false false true l = none-lost l
-lost-cases true true false false false l = refl
-
--- a request counts once, where the board counts it
-requests-same : (asked runs own gap busy free : Bool) (c : Counts) (cal : Calibrations)
+-- a request counts where the board counts it: the cause that a reading finds is its fate
+requests-same : (asked : Bool) (fate : ℕ) (c : Counts) (cal : Calibrations)
     → _≡_ {A = Counts}
     (record {
       requested = c .requested + one asked;
-      accepted = c .accepted + one (asked && eqb (fateBy runs own gap busy free) 0);
-      lost = if (asked && not (asked && eqb (fateBy runs own gap busy free) 0)) (lostTo (causeBy runs own gap busy) (c .lost)) (c .lost);
+      accepted = c .accepted + one (asked && eqb fate SENT);
+      lost = if asked (lostTo fate (c .lost)) (c .lost);
       cal = cal;
     })
-    (let r = requestedOf asked (fateBy runs own gap busy free) c in
+    (let r = requestedOf asked fate c in
     record { requested = r .requested; accepted = r .accepted; lost = r .lost; cal = cal })
 unfolding requestedOf
-requests-same true runs own gap busy free c cal = rw (lost-cases runs own gap busy free (c .lost))
-requests-same false runs own gap busy free c cal = simp add-zero
+requests-same true fate c cal = refl
+requests-same false fate c cal = simp add-zero
 
 calibrations-same : (asks free : Bool) (c : Calibrations)
     → _≡_ {A = Calibrations}
     (record {
       requested = c .requested + one asks;
       accepted = c .accepted + one (asks && free);
-      lost = c .lost + one (asks && not (asks && free));
+      lost = c .lost + one (asks && not free);
     })
     (calibratedOf asks free c)
 unfolding calibratedOf
@@ -129,6 +108,7 @@ module _ (s : Settings) (scene : Scene) (k class : ℕ) (asked : Bool) (p : Ptc)
         runs = running (x .ptc .state);
         own = eqb k (scene .holder);
         number = scene .number;
+        clear = freeIn scene (x .ptc .state);
       }
 
   abbrev now : ℕ
@@ -138,7 +118,7 @@ module _ (s : Settings) (scene : Scene) (k class : ℕ) (asked : Bool) (p : Ptc)
   state = moved (planOf s) scene k class asked p .state
 
   module _ (away : scheduleOf s .wte ≡ scheduleOf s .bc0 → ⊥) (later : scheduleOf s .wte ≡ scheduleOf s .gap → ⊥) (few : p .cycle ≤ 2) where
-    opens-same : (before : Bool) → before ≡ eqb (p .cycle) OPEN → opens lookOf before ≡ eqb now OPEN
+    pub opens-same : (before : Bool) → before ≡ eqb (p .cycle) OPEN → opens lookOf before ≡ eqb now OPEN
     unfolding opens keptOf openedOf crossedOf
     opens-same before e =
         rw (e, code-opens (planOf s) scene k class asked p away later)
@@ -149,10 +129,9 @@ module _ (s : Settings) (scene : Scene) (k class : ℕ) (asked : Bool) (p : Ptc)
     unfolding counted calCounted cause crossedOf fateOf
     counts-same =
         let free = freeIn scene state in
-        let gap = inGap (gapOf s) (scene .number) in
         let asks = asksOf (scheduleOf s) (scene .number) now in
-        rw (calibrations-same asks free (p .counts .cal))
-        (requests-same asked (running state) (eqb k (scene .holder)) gap (eqb now OPEN) free (p .counts) (calibratedOf asks free (p .counts .cal)))
+        let fate = fateOf (gapOf s) (scene .number) state (eqb k (scene .holder)) now free in
+        rw (calibrations-same asks free (p .counts .cal)) (requests-same asked fate (p .counts) (calibratedOf asks free (p .counts .cal)))
 
     ends-same : eqb now OPEN && not (asksOf (scheduleOf s) (scene .number) now) ≡ eqb (crossedOf (planOf s) scene k class asked p .ptc .cycle) OPEN
     unfolding asksOf crossedOf

@@ -1,10 +1,11 @@
 -- Demand 3, third sentence: requests since the last accepted START, or the fresh board, equal those sent plus those lost under the
--- five causes; and the closing board's counts, and so the report's lines, are those that the reading has.
-use Prim.Native.Nat.{ℕ, suc, _+_, _<_}
+-- five causes; and the closing board's counts, and so the report that is written, are those that the reading has.
+use Prim.Native.Nat.{ℕ, suc, _+_, _≤_, _<_}
 use mathlib.Core.Path.{_≡_}
 use mathlib.Core.List.{List, _++_}
-use lib.ListN.{getD}
+use lib.ListN.{length, drop, getD}
 use Rattle.laws.specs.Base.{one, mapI}
+use Rattle.answer.specs.Told.{DONE}
 use Rattle.text.specs.Lines.{linesText}
 use Rattle.keys.specs.Report.{commonKeys}
 use Rattle.settings.specs.declared.Settings.{Settings}
@@ -14,7 +15,7 @@ use Rattle.ptc.specs.Sound.{lostSum}
 use Rattle.records.specs.Refusal.{recordsIn}
 use Rattle.board.specs.declared.Board.{Board}
 use Rattle.board.specs.Command.{freshPtc}
-use Rattle.report.specs.Report.{commonValues, blocksFrom, reportText}
+use Rattle.report.specs.Report.{commonValues, blocksFrom, reported}
 use Rattle.logbook.specs.Whole.{Taken, Crossing, whole}
 use Rattle.balance.specs.Reading.{Reading, lookAt, readingOf}
 
@@ -40,9 +41,13 @@ module _ (s : Settings) (log rows : List ℕ) (closing : Board) where
     pub once : (i : ℕ) → Crossing log i
         → settled (readingOf s log rows k (suc i) .counts) ≡ settled (readingOf s log rows k i .counts) + one (lookAt s log rows k i .asked)
 
-  -- but for the states, the blocks of the report say what the readings say
+  -- the report's text as the readings have it: the common lines and the states are the board's, all else is read off
+  abbrev pub readOff : List ℕ
+  readOff = linesText commonKeys (commonValues closing) ++ blocksFrom s 0 (mapI (λ k p. shownAs (read s log rows k) (p .state)) 0 (closing .ptcs))
+
+  -- whoever lends room for it gets DONE and exactly this text, and the later bytes stay
   abbrev pub Reported : Type 0
-  Reported = reportText closing ≡ linesText commonKeys (commonValues closing) ++ blocksFrom s 0 (mapI (λ k p. shownAs (read s log rows k) (p .state)) 0 (closing .ptcs))
+  Reported = (out : List ℕ) → length readOff ≤ length out → reported closing out ≡ record { answer = DONE; buffer = readOff ++ drop (length readOff) out }
 
 -- of any log that a fresh board accepts, for each controller
 pub record Balance (s : Settings) (log buffer : List ℕ) : Type 0 where

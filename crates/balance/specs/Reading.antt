@@ -7,14 +7,16 @@ use lib.ListN.{getD}
 use Rattle.laws.specs.Base.{if, one}
 use Rattle.settings.specs.declared.Settings.{Settings}
 use Rattle.settings.specs.declared.names.Gap.{Gap}
-use Rattle.settings.specs.Names.{gapOf, scheduleOf}
+use Rattle.settings.specs.Names.{gapOf, scheduleOf, rulesOf, warnBlocksOf}
+use Rattle.throttle.specs.Windows.{freeAfter}
 use Rattle.states.specs.Commands.{START}
 use Rattle.ptc.specs.declared.counts.Counts.{Counts}
 use Rattle.ptc.specs.declared.counts.Calibrations.{Calibrations}
-use Rattle.ptc.specs.Counts.{STATE, SLOT, GAP, CAL, THROTTLE, inGap, lostTo, noCounts}
+use Rattle.ptc.specs.Counts.{SENT, STATE, SLOT, GAP, CAL, THROTTLE, inGap, lostTo, noCounts}
 use Rattle.records.specs.Records.{recAt, isCrossing, askedIn}
-use Rattle.logbook.specs.Row.{rowAt, codeIn, sentIn, calIn, runsIn, takenIn}
-use Rattle.logbook.specs.Beam.{numberIn, holderIn}
+use Rattle.logbook.specs.Row.{rowAt, codeIn, sentIn, calIn, runsIn, warnsIn, takenIn}
+use Rattle.slots.specs.Orbits.{numberBy, holderBy}
+use Rattle.windows.specs.Windows.{crossingRows, triggers}
 
 -- of one controller: whether its calibration cycle is open, the counts since its last START that a row shows as taken, and the
 -- triggers since code 7
@@ -28,7 +30,8 @@ abbrev pub unread : Reading
 unread = record { calibrating = false; counts = noCounts; events = 0 }
 
 -- what the bench sees of controller k in crossing i: its request bit, the row's bits and code, ready or warning by the row's status,
--- and the number and whether the slot is its own by the settings and the markers
+-- the number and whether the slot is its own by the settings and the markers, and whether the throttle is clear by the triggers in
+-- the rows of the crossings before, of all eight controllers
 pub record Look : Type 0 where
   pub asked : Bool
   pub sent : Bool
@@ -37,6 +40,7 @@ pub record Look : Type 0 where
   pub runs : Bool
   pub own : Bool
   pub number : ℕ
+  pub clear : Bool
 
 unfoldable pub lookAt : Settings → List ℕ → List ℕ → ℕ → ℕ → Look
 lookAt s log rows k i = record {
@@ -45,46 +49,53 @@ lookAt s log rows k i = record {
   cal = calIn (rowAt rows i) k;
   code = codeIn (rowAt rows i) k;
   runs = runsIn (rowAt rows i) k;
-  own = eqb k (holderIn s log i);
-  number = numberIn s log i;
+  own = eqb k (holderBy s log i);
+  number = numberBy s log i;
+  clear = freeAfter (rulesOf s) (warnBlocksOf s) (triggers (crossingRows log rows i)) (warnsIn (rowAt rows i) k);
 }
 
 -- the cycle is open from code 13 on, while the status is ready or warning and the slot its own
 unfoldable pub opens : Look → Bool → Bool
 opens l before = l .runs && (l .own && (before || eqb (l .code) 13))
 
--- a request that was not sent is lost under the first that holds: state, slot, gap, cal; else throttle
+-- a request is lost under the first that holds: state, slot, gap, cal, throttle. Each is tested; where none holds it must have been sent
 unfoldable pub cause : Gap → Look → Bool → ℕ
 cause gap l busy =
     if (l .runs)
     (if (l .own)
     (if (inGap gap (l .number)) GAP
-    (if busy CAL THROTTLE))
+    (if busy CAL
+    (if (l .clear) SENT THROTTLE)))
     SLOT)
     STATE
 
--- a calibration trigger is asked for, and sent or lost
+-- a calibration trigger is asked for, sent by the row, and can only be lost to the throttle
 unfoldable pub calCounted : Look → Bool → Calibrations → Calibrations
 calCounted l asks c = record {
   requested = c .requested + one asks;
   accepted = c .accepted + one (l .cal);
-  lost = c .lost + one (asks && not (l .cal));
+  lost = c .lost + one (asks && not (l .clear));
 }
 
--- requests by the records, those sent by the rows, the others under their cause
+-- requests by the records, those sent by the rows, those lost by their cause: three counts of which none is made from another, so
+-- that a request which was sent against a cause, or not sent without one, would spoil the sum
 unfoldable pub counted : Gap → Look → Bool → Bool → Counts → Counts
 counted gap l busy asks c = record {
   requested = c .requested + one (l .asked);
   accepted = c .accepted + one (l .sent);
-  lost = if (l .asked && not (l .sent)) (lostTo (cause gap l busy) (c .lost)) (c .lost);
+  lost = if (l .asked) (lostTo (cause gap l busy) (c .lost)) (c .lost);
   cal = calCounted l asks (c .cal);
 }
 
--- an open cycle asks its trigger at at_cal, and ends there
+-- an open cycle asks its trigger at at_cal
+abbrev pub asksFor : Settings → Look → Bool → Bool
+asksFor s l busy = busy && eqb (l .number) (scheduleOf s .cal)
+
+-- and ends there
 unfoldable pub pastCrossing : Settings → Look → Reading → Reading
 pastCrossing s l r =
     let busy = opens l (r .calibrating) in
-    let asks = busy && eqb (l .number) (scheduleOf s .cal) in
+    let asks = asksFor s l busy in
     record {
       calibrating = busy && not asks;
       counts = counted (gapOf s) l busy asks (r .counts);

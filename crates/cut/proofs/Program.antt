@@ -1,12 +1,12 @@
 -- In blocks of 64 the program does what the log run whole does.
 -- After n blocks it has the outcome of the log's first n blocks run as one: the next block joins on, and is accepted when the longer part is.
 use mathlib.Core.Path.{_≡_, refl, ap, sym, _∙_}
-use mathlib.Core.Bool.{true, false≢true}
+use mathlib.Core.Bool.{true, false, false≢true}
 use mathlib.Core.List.{List, _++_, append-assoc}
 use Prim.Native.Nat.{ℕ, zero, suc, _+_, _*_, _-_, _%_, _≤_, _<_}
-use native.Mathlib.Nat.{not-suc-le-zero}
+use native.Mathlib.Nat.{zero-add, suc-add, not-suc-le-zero}
 use native.Mathlib.Omega.{arith}
-use lib.ListN.{length, take, drop, length-append, length-drop}
+use lib.ListN.{length, take, drop, length-append, length-drop, take-append-drop}
 use lib.Seq.{length-take-le, take-all, drop-drop, take-add}
 use Rattle.laws.proofs.Bools.{if-has}
 use Rattle.answer.specs.Told.{succeeded, DONE}
@@ -15,7 +15,7 @@ use Rattle.records.proofs.Laws.{all-formed, crossings-le}
 use Rattle.board.specs.declared.Board.{Board}
 use Rattle.board.specs.Run.{ran, rowsOf}
 use Rattle.board.specs.Sound.{soundBoard}
-use Rattle.board.specs.Block.{RanOut, blockOf}
+use Rattle.board.specs.Block.{RanOut, answerOf, blockOf}
 use Rattle.board.proofs.Answers.{block-ready, block-answer, block-done}
 use Rattle.board.proofs.Keeps.{Fit, ran-fit}
 use Rattle.board.proofs.Settled.{sound-parts, within-life}
@@ -23,7 +23,7 @@ use Rattle.replay.specs.Replay.{blocksIn, blockAt, laidOn, inBlocks}
 use Rattle.cut.proofs.Accepted.{fit-of, accepts, accepted, rows-taken, rows-past}
 use Rattle.cut.proofs.Parts.{records-add, ran-parts, rows-parts, first-ready, rest-ready, both-ready}
 use Rattle.cut.specs.Blocks.{Whole}
-use Rattle.cut.specs.Program.{Program}
+use Rattle.cut.specs.Program.{first, next, Program}
 
 module _ (b : Board) (rows : List ℕ) (fit : Fit b) where
   -- a part of a log, run in one block
@@ -134,8 +134,32 @@ module _ (b : Board) (rows : List ℕ) (fit : Fit b) where
         let at : 768 * n ≡ 12 * recordsIn (upTo n) = omega (arith, up-to-long n h) in
         went-on n h before (rw (as-one n (omega arith) before, at) at both .1)
 
+-- ---- a refused block
+
+-- gives back the board and the rows that it was lent
+refused-block : (b : Board) (log rows : List ℕ) → succeeded (blockOf b log rows .answer) ≡ false
+    → blockOf b log rows ≡ record { answer = blockOf b log rows .answer; board = b; rows = rows }
+unfolding blockOf
+refused-block b log rows e =
+    let stopped : succeeded (answerOf b log (length rows)) ≡ false = ap succeeded (sym (block-answer b log rows)) ∙ e in
+    rw stopped
+
+ends : (b : Board) (log rows : List ℕ) (n : ℕ) → inBlocks n b log rows ≡ first n b log rows → first n b log rows .answer ≡ DONE
+    → succeeded (next n b log rows .answer) ≡ false
+    → inBlocks (suc n) b log rows ≡ record { answer = next n b log rows .answer; board = first n b log rows .board; rows = first n b log rows .rows }
+unfolding inBlocks
+ends b log rows n so done stopped =
+    let o = first n b log rows in
+    rw (so, done, refused-block (o .board) (blockAt log n) (drop (768 * n) (o .rows)) stopped, take-append-drop)
+
+-- after a refusal no block is run
+stays : (n m : ℕ) (b : Board) (log rows : List ℕ) → succeeded (inBlocks n b log rows .answer) ≡ false → inBlocks (m + n) b log rows ≡ inBlocks n b log rows
+unfolding inBlocks
+stays n zero b log rows e = rw zero-add
+stays n (suc m) b log rows e = rw (suc-add, stays n m b log rows e, e)
+
 pub program : Program
-program = record { same = same; only = only }
+program = record { same = same; only = only; refused = refused }
   where
     same : (b : Board) (log rows : List ℕ) → Whole b → blockOf b log rows .answer ≡ DONE → inBlocks (blocksIn log) b log rows ≡ blockOf b log rows
     same b log rows whole done =
@@ -148,3 +172,16 @@ program = record { same = same; only = only }
         let fit = fit-of b whole sound in
         let r = went-through b rows fit log (blocksIn log) (omega arith) (rw done refl) in
         accepts b log rows sound (rw (up-to-all b rows fit log) at r)
+
+    refused : (b : Board) (log rows : List ℕ) (n : ℕ) → Whole b → n < blocksIn log → first n b log rows .answer ≡ DONE
+        → succeeded (next n b log rows .answer) ≡ false
+        → inBlocks (blocksIn log) b log rows ≡ record { answer = next n b log rows .answer; board = first n b log rows .board; rows = first n b log rows .rows }
+    refused b log rows n whole h done stopped =
+        let x = take (1536 * n) log in
+        let start = block-ready b x (length rows) (sym (block-answer b x rows) ∙ done) in
+        let fit = fit-of b whole (start .0) in
+        let so = as-one b rows fit log n (omega arith) (start .1) ∙ sym (block-done b x rows done) in
+        let here = ends b log rows n so done stopped in
+        let left = blocksIn log - suc n in
+        let all : blocksIn log ≡ left + suc n = omega arith in
+        ap (λ (k : ℕ). inBlocks k b log rows) all ∙ stays (suc n) left b log rows (rw here stopped) ∙ here

@@ -1,1 +1,2 @@
+pub mod AnyTime
 pub mod Figures

@@ -15,12 +15,14 @@ use Rattle.laws.proofs.Tests.{either, same-or-not}
 use Rattle.settings.specs.declared.Settings.{Settings}
 use Rattle.ptc.proofs.Triggers.{SentIs, CalIs, sent-is, cal-is, never-both}
 use Rattle.records.specs.Records.{recAt, askedIn}
-use Rattle.board.specs.Kit.{planOf}
+use Rattle.board.specs.Kit.{slotsOf, planOf}
 use Rattle.logbook.specs.Row.{rowAt, sentIn, calIn, sendsIn, triggersOf}
-use Rattle.logbook.specs.Beam.{holderIn}
 use Rattle.logbook.specs.Whole.{Taken, Crossing, whole}
-use Rattle.logbook.proofs.Beams.{number-told, holder-told}
 use Rattle.logbook.proofs.Seen.{sceneIn, ptcIn, classIn, sent-told, cal-told, runs-told}
+use Rattle.slots.specs.Orbits.{orbitEndsIn, holderBy}
+use Rattle.slots.specs.Rounds.{OwnOrbit}
+use Rattle.slots.proofs.Slots.{number-seen, holder-seen}
+use Rattle.slots.proofs.Rounds.{rounds}
 use Rattle.owner.specs.Owned.{Rightful, Owner}
 
 -- ---- at most one of the eight, where one alone may send
@@ -62,24 +64,31 @@ module _ {s : Settings} {log buffer : List ℕ} (t : Taken s log buffer) {i : �
   cal-says e =
       cal-is (planOf s) (sceneIn s log i) k (classIn s log i k) (askedIn (getD (recAt log i) 2 0) k) (ptcIn s log i k) (sym (cal-told t c k low) ∙ e)
 
-  holds-it : eqb k (sceneIn s log i .holder) ≡ true → k ≡ holderIn s log i
-  holds-it e = eqb-true k (sceneIn s log i .holder) e ∙ holder-told s log i
+  holds-it : eqb k (sceneIn s log i .holder) ≡ true → k ≡ holderBy s log i
+  holds-it e = eqb-true k (sceneIn s log i .holder) e ∙ holder-seen t c
+
+  own-orbit : k ≡ holderBy s log i → OwnOrbit (slotsOf s) k (orbitEndsIn s log i)
+  own-orbit e = rounds (slotsOf s) .holds k low .only (orbitEndsIn s log i) (sym e)
 
   of-request : sentIn row k ≡ true → Rightful s log (whole s log buffer .rows) i k
   of-request e =
       let w = sent-says e in
+      let own = holds-it (w .own) in
       record {
-        holds = holds-it (w .own);
+        holds = own;
+        orbit = own-orbit own;
         runs = runs-told t c k low ∙ w .runs;
-        place = inl (rw (number-told s log i) at (w .outside));
+        place = inl (rw (number-seen t c) at (w .outside));
         asked = λ q. w .requested;
       }
 
   of-calibration : calIn row k ≡ true → Rightful s log (whole s log buffer .rows) i k
   of-calibration e =
       let w = cal-says e in
+      let own = holds-it (w .own) in
       record {
-        holds = holds-it (w .own);
+        holds = own;
+        orbit = own-orbit own;
         runs = runs-told t c k low ∙ w .runs;
         place = inr e;
         asked = λ q. sent-says q .requested;
@@ -96,7 +105,7 @@ module _ {s : Settings} {log buffer : List ℕ} (t : Taken s log buffer) {i : �
       (rw (sent-told t c k low, cal-told t c k low)
       (never-both (planOf s) (sceneIn s log i) k (classIn s log i k) (askedIn (getD (recAt log i) 2 0) k) (ptcIn s log i k)))
 
-  none-else : (k ≡ holderIn s log i → ⊥) → one (sentIn row k) + one (calIn row k) ≡ 0
+  none-else : (k ≡ holderBy s log i → ⊥) → one (sentIn row k) + one (calIn row k) ≡ 0
   none-else n =
       ⊎-elim
       (λ (e : sendsIn row k ≡ true). absurd (n (rightful-here e .holds)))
@@ -106,7 +115,7 @@ module _ {s : Settings} {log buffer : List ℕ} (t : Taken s log buffer) {i : �
 pub one-at-most : {s : Settings} {log buffer : List ℕ} (t : Taken s log buffer) {i : ℕ} → Crossing log i
     → triggersOf (rowAt (whole s log buffer .rows) i) 8 ≤ 1
 one-at-most {s} {log} {buffer} t {i} c =
-    sum-below (rowAt (whole s log buffer .rows) i) (holderIn s log i) (one-kind t c) (none-else t c) 8 (omega arith) .1
+    sum-below (rowAt (whole s log buffer .rows) i) (holderBy s log i) (one-kind t c) (none-else t c) 8 (omega arith) .1
 
 pub owner : Owner
 owner s log buffer t = record { one-at-most = λ i c. one-at-most t c; rightful = λ i k c low e. rightful-here t c k low e }

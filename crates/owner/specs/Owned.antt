@@ -9,16 +9,20 @@ use Rattle.settings.specs.declared.Settings.{Settings}
 use Rattle.settings.specs.Names.{gapOf}
 use Rattle.ptc.specs.Counts.{inGap}
 use Rattle.records.specs.Records.{recAt, askedIn}
+use Rattle.board.specs.Kit.{slotsOf}
 use Rattle.logbook.specs.Row.{rowAt, sentIn, calIn, sendsIn, triggersIn, runsIn}
-use Rattle.logbook.specs.Beam.{numberIn, holderIn}
 use Rattle.logbook.specs.Whole.{Taken, Crossing, whole}
+use Rattle.slots.specs.Orbits.{numberBy, orbitEndsIn, holderBy}
+use Rattle.slots.specs.Rounds.{OwnOrbit}
 
--- controller k sends a trigger in crossing i: it is the holder that the settings and the markers name, its status is ready or
--- warning, and the crossing is outside the gap or the trigger is a calibration trigger; a request's trigger was requested
+-- controller k sends a trigger in crossing i: it is the holder, as counted from settings and markers alone, and the orbit is in its own
+-- stretch of the round; its status is ready or warning; the crossing is outside the gap or the trigger is a calibration trigger; a
+-- request's trigger was requested
 pub record Rightful (s : Settings) (log rows : List ℕ) (i k : ℕ) : Type 0 where
-  pub holds : k ≡ holderIn s log i
+  pub holds : k ≡ holderBy s log i
+  pub orbit : OwnOrbit (slotsOf s) k (orbitEndsIn s log i)
   pub runs : runsIn (rowAt rows i) k ≡ true
-  pub place : (inGap (gapOf s) (numberIn s log i) ≡ false) ⊎ (calIn (rowAt rows i) k ≡ true)
+  pub place : (inGap (gapOf s) (numberBy s log i) ≡ false) ⊎ (calIn (rowAt rows i) k ≡ true)
   pub asked : sentIn (rowAt rows i) k ≡ true → askedIn (getD (recAt log i) 2 0) k ≡ true
 
 -- in each crossing at most one trigger is sent, and rightfully

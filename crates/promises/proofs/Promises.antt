@@ -1,28 +1,26 @@
 -- Every promise is kept: each by its own theorem.
 -- Nothing is argued here; this is where the three demands stand complete.
 use Rattle.settings.proofs.RoundTrip.{accepted-writes-back, written-reads-back}
+use Rattle.outcomes.proofs.Outcomes.{one-outcome}
 use Rattle.figures.proofs.Figures.{figures}
-use Rattle.cut.proofs.Cut.{cut}
 use Rattle.cut.proofs.Program.{program}
-use Rattle.owner.proofs.Owner.{owner}
-use Rattle.windows.proofs.Windows.{windows}
-use Rattle.balance.proofs.Balance.{balance}
+use Rattle.slots.proofs.Slots.{slots}
+use Rattle.slots.proofs.Rounds.{rounds}
+use Rattle.programs.proofs.Programs.{no-empty-program}
 use Rattle.promises.specs.Promises.{Promises}
 use Rattle.promises.proofs.Refusals.{refusals}
-use Rattle.promises.proofs.Outcomes.{one-outcome}
-use Rattle.promises.proofs.Programs.{no-empty-program}
+use Rattle.promises.proofs.WholeLog.{whole-log}
 
 pub promises : Promises
 promises =
     record {
-      owner = owner;
       refusals = refusals;
       one-outcome = one-outcome;
       round-trips = record { accepted-writes-back = accepted-writes-back; written-reads-back = written-reads-back };
       figures = figures;
-      cut = cut;
+      whole-log = whole-log;
       program = program;
-      windows = windows;
-      balance = balance;
+      slots = slots;
+      rounds = rounds;
       no-empty-program = no-empty-program;
     }

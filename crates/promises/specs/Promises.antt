@@ -7,15 +7,14 @@ use Rattle.answer.specs.Told.{DONE}
 use Rattle.settings.specs.declared.Settings.{Settings}
 use Rattle.settings.specs.Read.{readText}
 use Rattle.settings.specs.Write.{textOf, written}
+use Rattle.outcomes.specs.Outcomes.{OneOutcome}
 use Rattle.figures.specs.Figures.{Figures}
-use Rattle.cut.specs.Blocks.{Cut}
 use Rattle.cut.specs.Program.{Program}
-use Rattle.owner.specs.Owned.{Owner}
-use Rattle.windows.specs.Windows.{Windows}
-use Rattle.balance.specs.Balanced.{Balances}
+use Rattle.slots.specs.Slots.{Slots}
+use Rattle.slots.specs.Rounds.{Rounds}
+use Rattle.programs.specs.Programs.{NoEmptyProgram}
 use Rattle.promises.specs.Refusals.{Refusals}
-use Rattle.promises.specs.Outcomes.{OneOutcome}
-use Rattle.promises.specs.Programs.{NoEmptyProgram}
+use Rattle.promises.specs.WholeLog.{WholeLogs}
 
 -- demand 2, second sentence; settings have 71 values
 pub record RoundTrips : Type 0 where
@@ -25,18 +24,17 @@ pub record RoundTrips : Type 0 where
       → readText (take (length (textOf s)) (written s buffer .buffer)) ≡ record { answer = DONE; settings = s }
 
 pub record Promises : Type 0 where
-  -- no group's trigger in another group's file
-  pub owner : Owner
   -- demand 1
   pub refusals : Refusals
   -- demand 2: the contracts are equations with the definitions of document 01; so one input has one outcome
   pub one-outcome : OneOutcome
   pub round-trips : RoundTrips
   pub figures : Figures
-  -- demand 3
-  pub cut : Cut
+  -- demand 3, and that no group's trigger gets into another group's file: of any blocks, and of the programs' blocks of 64 records
+  pub whole-log : WholeLogs
   pub program : Program
-  pub windows : Windows
-  pub balance : Balances
-  -- and no program without work meets them
+  -- the number and the holder that the desk goes by are those that settings and markers give by counting, and each hold lasts its orbits
+  pub slots : Slots
+  pub rounds : (slots : List ℕ) → Rounds slots
+  -- and no program without work meets the contracts
   pub no-empty-program : NoEmptyProgram

@@ -14,7 +14,7 @@ use Rattle.settings.specs.declared.names.Rule.{Rule}
 use Rattle.settings.specs.declared.names.Rules.{Rules}
 use Rattle.throttle.specs.Marks.{among}
 use Rattle.throttle.specs.Rules.{rulesList, spacingRule, limitOf, allows, free}
-use Rattle.throttle.specs.Windows.{countOf, Kept, Tells}
+use Rattle.throttle.specs.Windows.{countOf, Kept, Tells, allowsAfter, freeAfter}
 use Rattle.throttle.proofs.Windows.{window, window-low, tells-count}
 
 -- a rule as the window fact has it, and checked settings have it
@@ -29,6 +29,31 @@ pub free-allows : (r : Rules) (blocks : Bool) (ws : List ℕ) (n : ℕ) (warn : 
 unfolding free
 free-allows r blocks ws n warn e k h =
     all-get (allows ws n warn) (rulesList r) k (spacingRule r) (both (not (warn && blocks)) (allB (allows ws n warn) (rulesList r)) e .1) h
+
+-- ---- the rules over a ring are the rules over a list that tells the same
+
+allows-told : (ws : List ℕ) (n : ℕ) (ms : List ℕ) → Tells ws n ms → (warn : Bool) (r : Rule) → r .period ≤ 2047 → allows ws n warn r ≡ allowsAfter ms warn r
+unfolding allows
+allows-told ws n ms t warn r h = rw (tells-count ws n ms t (r .period - 1) (omega (arith, h)))
+
+-- no period is longer than the ring
+pub record Near (r : Rules) : Type 0 where
+  pub one : r .spacing + 1 ≤ 2047
+  pub two : r .second .period ≤ 2047
+  pub three : r .third .period ≤ 2047
+  pub four : r .fourth .period ≤ 2047
+
+pub free-told : (r : Rules) → Near r → (blocks : Bool) (ws : List ℕ) (n : ℕ) (ms : List ℕ) → Tells ws n ms → (warn : Bool) → free r blocks ws n warn ≡ freeAfter r blocks ms warn
+unfolding free freeAfter allB
+free-told r near blocks ws n ms t warn =
+    rw (
+      allows-told ws n ms t warn (spacingRule r) (near .one),
+      allows-told ws n ms t warn (r .second) (near .two),
+      allows-told ws n ms t warn (r .third) (near .three),
+      allows-told ws n ms t warn (r .fourth) (near .four),
+    )
+
+-- ---- what a rule keeps
 
 module _ (r : Rule) (plain : Plain r) (ws : List ℕ) (n : ℕ) (ms : List ℕ) (tells : Tells ws n ms) (warn : Bool) where
   counted : allows ws n warn r ≡ true → countOf (r .period - 1) ms + 1 ≤ limitOf r warn

@@ -1,13 +1,16 @@
 -- The window fact, once for any period and any limit; its companion for a trigger sent under a lower limit; and that a ring and a list of marks go on telling the same.
 -- By induction on the list: a stretch that begins with a mark was counted when the mark was set, one that does not holds no more than the stretch before.
-use mathlib.Core.Path.{_≡_, refl, sym, _∙_}
+use mathlib.Core.Path.{_≡_, refl, sym, ap, _∙_}
 use mathlib.Core.List.{List, [], _∷_}
-use Prim.Native.Nat.{ℕ, zero, suc, _+_, _≤_, _<_}
+use Prim.Native.Nat.{ℕ, zero, suc, _+_, _-_, _/_, _%_, _^_, _≤_, _<_}
+use native.Mathlib.Nat.{zero-div}
 use native.Mathlib.Numerals.{add-one}
 use native.Mathlib.Omega.{arith}
 use native.Mathlib.Decide.{ℕ-discrete}
-use lib.ListN.{length, getD, drop}
-use Rattle.throttle.specs.Marks.{passed, markBack, among}
+use lib.Dec.{ltb}
+use lib.ListN.{length, getD, drop, replicate, getD-replicate}
+use Rattle.laws.proofs.Bools.{if-has}
+use Rattle.throttle.specs.Marks.{passed, bitAt, markAt, markBack, among}
 use Rattle.throttle.specs.Windows.{countOf, Kept, Tells}
 use Rattle.throttle.proofs.Ring.{passed-new, passed-old}
 
@@ -59,3 +62,19 @@ tells-on ws n ms x long bit t = record { same = go }
     go : (d : ℕ) → d < 2047 → markBack (passed ws n x) (n + 1) d ≡ getD (x ∷ ms) d 0
     go zero h = passed-new ws long x bit n
     go (suc d) h = rw (← add-one d) (passed-old ws long x bit n d (omega arith) ∙ t .same d (omega arith))
+
+-- ---- no earlier trigger, whatever the crossing
+
+zero-bit : (k : ℕ) → bitAt 0 k ≡ 0
+unfolding bitAt
+zero-bit k = rw (zero-div (2 ^ k))
+
+unmarked : (c : ℕ) → markAt (replicate 32 0) c ≡ 0
+unfolding markAt
+unmarked c =
+    let place : c / 64 % 32 < 32 = omega arith in
+    ap (λ (w : ℕ). bitAt w (c % 64)) (getD-replicate {A = ℕ} 32 (c / 64 % 32) 0 0 place) ∙ zero-bit (c % 64)
+
+pub none-told : (n : ℕ) → Tells (replicate 32 0) n []
+unfolding markBack
+none-told n = record { same = λ d h. if-has (λ (x : ℕ). x ≡ 0) (ltb d n) _ 0 (λ e. unmarked (n - 1 - d)) (λ e. refl) }

@@ -1,9 +1,15 @@
 -- The window fact, about a list of marks, the newest first: what a rule of any period and any limit keeps.
-use Prim.Native.Nat.{ℕ, zero, suc, _+_, _≤_, _<_}
+use Prim.Native.Nat.{ℕ, zero, suc, _+_, _-_, _≤_, _<_}
 use mathlib.Core.Path.{_≡_}
+use mathlib.Core.Bool.{Bool, not, _&&_}
 use mathlib.Core.List.{List, [], _∷_}
+use lib.Dec.{leb}
 use lib.ListN.{getD}
+use Rattle.laws.specs.Base.{allB}
+use Rattle.settings.specs.declared.names.Rule.{Rule}
+use Rattle.settings.specs.declared.names.Rules.{Rules}
 use Rattle.throttle.specs.Marks.{markBack}
+use Rattle.throttle.specs.Rules.{rulesList, limitOf}
 
 -- the marks among the newest k
 unfoldable pub countOf : ℕ → List ℕ → ℕ
@@ -20,3 +26,11 @@ Kept before limit (x ∷ ms) = (x ≤ 1) × (x ≡ 1 → countOf before ms + 1 �
 -- a ring tells the same as a list of marks, as far back as it goes
 pub record Tells (ws : List ℕ) (n : ℕ) (ms : List ℕ) : Type 0 where
   pub same : (d : ℕ) → d < 2047 → markBack ws n d ≡ getD ms d 0
+
+-- Document 01, "Throttle", over a list: the triggers of the period - 1 crossings before, plus this one, do not exceed the limit
+abbrev pub allowsAfter : List ℕ → Bool → Rule → Bool
+allowsAfter ms warn r = leb (countOf (r .period - 1) ms + 1) (limitOf r warn)
+
+-- a trigger is free: not refused in WARN by warn_blocks, and not by any of the four rules
+unfoldable pub freeAfter : Rules → Bool → List ℕ → Bool → Bool
+freeAfter r blocks ms warn = not (warn && blocks) && allB (allowsAfter ms warn) (rulesList r)

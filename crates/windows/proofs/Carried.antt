@@ -138,7 +138,7 @@ module _ {s : Settings} {log buffer : List ℕ} (t : Taken s log buffer) {i : �
 
   -- ---- what a trigger was allowed by
 
-  free-seen : (state : ℕ) → freeIn (sceneIn s log i) state
+  pub free-seen : (state : ℕ) → freeIn (sceneIn s log i) state
       ≡ free (rulesOf s) (warnBlocksOf s) (before .marks) (before .clock .crossings) (eqb state WARN)
   unfolding sceneOf
   free-seen state =

@@ -1,25 +1,28 @@
 -- The windows over a whole log: the ring of marks tells what the rows tell, and each rule keeps its limit, so no stretch holds more.
 -- By induction on the records: a crossing's triggers join the list and the ring alike, and a trigger was sent only where the rule allowed it.
-use mathlib.Core.Path.{_≡_}
+use mathlib.Core.Path.{_≡_, _∙_}
 use mathlib.Core.Logic.{⊎-elim}
 use mathlib.Core.Bool.{true, false, false≢true}
 use mathlib.Core.List.{List, [], _∷_}
 use Prim.Native.Nat.{ℕ, zero, suc, _+_, _-_, _≤_, _<_}
 use native.Mathlib.Omega.{arith}
 use native.Mathlib.Decide.{ℕ-discrete}
-use borrow.Author.Tests.{le-ltb}
+use lib.Dec.{eqb}
 use lib.ListN.{getD}
 use Rattle.laws.specs.Base.{one}
 use Rattle.laws.proofs.Bools.{both}
 use Rattle.laws.proofs.Tests.{either}
 use Rattle.answer.specs.Told.{DONE}
 use Rattle.settings.specs.declared.Settings.{Settings}
+use Rattle.settings.specs.Names.{rulesOf, warnBlocksOf}
 use Rattle.settings.specs.Check.{checked}
 use Rattle.settings.proofs.Bounds.{bounded, ordered}
-use Rattle.throttle.specs.Marks.{passed, markBack}
-use Rattle.throttle.specs.Windows.{countOf, Kept, Tells}
-use Rattle.throttle.proofs.Windows.{tells-on}
-use Rattle.throttle.proofs.Instances.{Plain, kept-on, rule-window, rule-low}
+use Rattle.throttle.specs.Marks.{passed}
+use Rattle.throttle.specs.Windows.{countOf, Kept, Tells, freeAfter}
+use Rattle.throttle.proofs.Windows.{tells-on, none-told}
+use Rattle.throttle.proofs.Instances.{Plain, Near, free-told, kept-on, rule-window, rule-low}
+use Rattle.states.specs.Names.{WARN}
+use Rattle.ptc.specs.Crossing.{freeIn}
 use Rattle.records.specs.Records.{recAt, isCrossing}
 use Rattle.records.specs.Rows.{carries}
 use Rattle.records.specs.Refusal.{recordsIn}
@@ -32,8 +35,9 @@ use Rattle.board.proofs.Keeps.{crossed-count}
 use Rattle.logbook.specs.Row.{rowAt, sendsIn, triggersIn, warnsIn}
 use Rattle.logbook.specs.Whole.{Taken, Crossing, whole}
 use Rattle.logbook.proofs.Ground.{fit-at}
+use Rattle.logbook.proofs.Seen.{sceneIn}
 use Rattle.windows.specs.Windows.{crossingRows, triggers, inStretch, ruleAt, sentWarned, Windows}
-use Rattle.windows.proofs.Carried.{carried, bit, sent-one, who-sent, allowed}
+use Rattle.windows.proofs.Carried.{carried, bit, sent-one, who-sent, free-seen, allowed}
 
 -- ---- the four rules, as the window fact has them
 
@@ -58,8 +62,8 @@ module _ {s : Settings} {log buffer : List ℕ} (t : Taken s log buffer) where
   -- ---- the ring tells what the rows tell
 
   fresh-tells : Tells (before 0 .marks) (before 0 .clock .crossings) (sofar 0)
-  unfolding ran freshBoard crossingRows markBack
-  fresh-tells = record { same = λ d h. rw (le-ltb d 0 (omega arith)) }
+  unfolding ran freshBoard crossingRows
+  fresh-tells = none-told 0
 
   module _ (i : ℕ) (c : Crossing log i) where
     marks-next : before (suc i) .marks ≡ passed (before i .marks) (before i .clock .crossings) (one (carries (eight byteOf (before i) (recAt log i))))
@@ -91,6 +95,18 @@ module _ {s : Settings} {log buffer : List ℕ} (t : Taken s log buffer) where
       (λ (e : isCrossing (recAt log i) ≡ true). crossing-tells i (record { among = h; kind = e }) old)
       (λ (e : isCrossing (recAt log i) ≡ false). rw e old)
       (either (isCrossing (recAt log i)))
+
+  -- ---- whether a trigger is free, by the rows of the crossings before
+
+  near-rules : Near (rulesOf s)
+  near-rules = omega (arith, bounded s (t .checks))
+
+  pub clear-told : {i : ℕ} → Crossing log i → (state : ℕ)
+      → freeIn (sceneIn s log i) state ≡ freeAfter (rulesOf s) (warnBlocksOf s) (sofar i) (eqb state WARN)
+  clear-told {i} c state =
+      let told = tells i (omega (arith, c .among)) in
+      free-seen t c state
+      ∙ free-told (rulesOf s) near-rules (warnBlocksOf s) (before i .marks) (before i .clock .crossings) (sofar i) told (eqb state WARN)
 
   -- ---- each rule keeps its normal limit, and a trigger sent under warning the low one
 

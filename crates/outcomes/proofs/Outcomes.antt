@@ -1,0 +1,135 @@
+-- One input, one outcome: two outcomes that meet a contract are seen as the same, and what is seen of an outcome determines it.
+-- An answer is determined by what it tells, a place within a text by what follows it.
+use mathlib.Core.Path.{_≡_, refl, sym, ap, ap₂, _∙_}
+use mathlib.Core.List.{List}
+use Prim.Native.Nat.{ℕ, _≤_}
+use native.Mathlib.Omega.{arith}
+use lib.ListN.{length, drop, length-drop}
+use Rattle.answer.specs.declared.Answer.{Answer}
+use Rattle.answer.specs.Told.{Told, told}
+use Rattle.answer.proofs.Told.{told-one}
+use Rattle.text.specs.declared.Number.{Number}
+use Rattle.text.specs.declared.Number.the-variants as number-is
+use Rattle.text.specs.declared.Line.{Line}
+use Rattle.text.specs.declared.Line.the-variants as line-is
+use Rattle.text.specs.declared.Range.{Range}
+use Rattle.text.specs.Seen.{seen, Within, NumberIs, lineSeen, LineWithin, LineIs}
+use Rattle.settings.specs.declared.Settings.{Settings}
+use Rattle.settings.specs.declared.Reading.{Reading}
+use Rattle.settings.specs.Read.{ReadOut, readOut}
+use Rattle.settings.specs.Write.{WriteOut, writeOut}
+use Rattle.board.specs.declared.Board.{Board}
+use Rattle.board.specs.declared.Made.{Made}
+use Rattle.board.specs.declared.Ran.{Ran}
+use Rattle.board.specs.Fresh.{MadeOut, madeOut}
+use Rattle.board.specs.Block.{RanOut, ranOut}
+use Rattle.report.specs.Report.{ReportOut, reportOut}
+use Rattle.outcomes.specs.Outcomes.{One, OneOutcome}
+
+-- ---- equations of the result and of what was lent
+
+known : {A : Type 0} (d : A) → One (λ (r : A). r ≡ d)
+known d a b p q = p ∙ sym q
+
+bounded : {A : Type 0} (d : A) (P : A → Type 0) → One (λ (r : A). (r ≡ d) × P r)
+bounded d P a b p q = known d a b (p .0) (q .0)
+
+laid : {A B : Type 0} (d : A) (e : B) → One (λ (o : A × B). (o .0 ≡ d) × (o .1 ≡ e))
+laid {A} {B} d e a b p q = ap₂ (λ (x : A) (y : B). (x, y)) (known d (a .0) (b .0) (p .0) (q .0)) (known e (a .1) (b .1) (p .1) (q .1))
+
+filled : {B : Type 0} (e : B) → One (λ (o : Unit {0} × B). o .1 ≡ e)
+filled {B} e a b p q = ap (λ (y : B). (tt, y)) (known e (a .1) (b .1) p q)
+
+-- ---- an answer, alone and beside what else is given back
+
+told-known : (d : Told) → One (λ (a : Answer). told a ≡ d)
+told-known d a b p q = told-one a b (p ∙ sym q)
+
+-- made into one, an answer and the rest are determined by what is told of the answer and by the rest
+beside : {X Out : Type 0} (make : Answer → X → Out) (a b : Answer) (x y : X) → _≡_ {A = Told × X} (told a, x) (told b, y) → make a x ≡ make b y
+beside {X} make a b x y e = ap₂ make (told-one a b (ap (λ (o : Told × X). o .0) e)) (ap (λ (o : Told × X). o .1) e)
+
+one-reading : (d : ReadOut) → One (λ (r : Reading). readOut r ≡ d)
+one-reading d a b p q =
+    beside (λ (z : Answer) (s : Settings). record { answer = z; settings = s }) (a .answer) (b .answer) (a .settings) (b .settings)
+    (ap (λ (o : ReadOut). (o .answer, o .settings)) (p ∙ sym q))
+
+one-made : (d : MadeOut) → One (λ (r : Made). madeOut r ≡ d)
+one-made d a b p q =
+    beside (λ (z : Answer) (s : Board). record { answer = z; board = s }) (a .answer) (b .answer) (a .board) (b .board)
+    (ap (λ (o : MadeOut). (o .answer, o .board)) (p ∙ sym q))
+
+one-ran : (d : RanOut) → One (λ (o : Ran × List ℕ). ranOut (o .0) (o .1) ≡ d)
+one-ran d a b p q =
+    beside (λ (z : Answer) (s : Board × List ℕ). (record { answer = z; board = s .0 }, s .1)) (a .0 .answer) (b .0 .answer)
+    (a .0 .board, a .1) (b .0 .board, b .1)
+    (ap (λ (o : RanOut). (o .answer, (o .board, o .rows))) (p ∙ sym q))
+
+one-written : (d : WriteOut) → One (λ (o : Answer × List ℕ). writeOut (o .0) (o .1) ≡ d)
+one-written d a b p q =
+    beside (λ (z : Answer) (s : List ℕ). (z, s)) (a .0) (b .0) (a .1) (b .1) (ap (λ (o : WriteOut). (o .answer, o .buffer)) (p ∙ sym q))
+
+one-report : (d : ReportOut) → One (λ (o : Answer × List ℕ). reportOut (o .0) (o .1) ≡ d)
+one-report d a b p q =
+    beside (λ (z : Answer) (s : List ℕ). (z, s)) (a .0) (b .0) (a .1) (b .1) (ap (λ (o : ReportOut). (o .answer, o .buffer)) (p ∙ sym q))
+
+-- ---- a place of a text, which is told by what follows it
+
+module _ (s : List ℕ) where
+  one-place : (m n : ℕ) → m ≤ length s → n ≤ length s → drop m s ≡ drop n s → m ≡ n
+  one-place m n p q e = omega (arith, simp length-drop at (ap length e))
+
+  seen-one : (a b : Number) → seen s a ≡ seen s b → Within s a → Within s b → a ≡ b
+  seen-one (number-is.Value v m) (number-is.Value w n) e p q = cc (one-place m n p q (cc))
+  seen-one (number-is.Value v m) number-is.Ill e p q = cc
+  seen-one number-is.Ill (number-is.Value w n) e p q = cc
+  seen-one number-is.Ill number-is.Ill e p q = refl
+
+  line-one : (a b : Line) → lineSeen s a ≡ lineSeen s b → LineWithin s a → LineWithin s b → a ≡ b
+  line-one (line-is.Value v m) (line-is.Value w n) e p q = cc (one-place m n p q (cc))
+  line-one (line-is.Value v m) line-is.Ill e p q = cc
+  line-one (line-is.Value v m) line-is.Out e p q = cc
+  line-one line-is.Ill (line-is.Value w n) e p q = cc
+  line-one line-is.Ill line-is.Ill e p q = refl
+  line-one line-is.Ill line-is.Out e p q = cc
+  line-one line-is.Out (line-is.Value w n) e p q = cc
+  line-one line-is.Out line-is.Ill e p q = cc
+  line-one line-is.Out line-is.Out e p q = refl
+
+  number-known : (at k : ℕ) → One (NumberIs s at k)
+  number-known at k a b p q = seen-one a b (p .says ∙ sym (q .says)) (p .inside) (q .inside)
+
+  line-known : (at : ℕ) (h : List ℕ) (r : Range) → One (LineIs s at h r)
+  line-known at h r a b p q = line-one a b (p .says ∙ sym (q .says)) (p .inside) (q .inside)
+
+pub one-outcome : OneOutcome
+one-outcome =
+    record {
+      read = λ κs text. one-reading _;
+      write = λ κs s buffer. one-written _;
+      check = λ s. told-known _;
+      fresh = λ s. one-made _;
+      block = λ κs board log rows. one-ran _;
+      is-sound = λ board. known _;
+      report = λ κs board buffer. one-report _;
+      opened = λ κs text. one-made _;
+      run-blocks = λ κs board log rows. one-ran _;
+      report-length = λ board. known _;
+      standard = known _;
+      settings-length = λ s. known _;
+      number = λ a. known _;
+      is-done = λ a. known _;
+      refusal = λ κs done log room. told-known _;
+      read-number = λ κs text at digits. number-known _ at digits;
+      read-line = λ κs text at head range. line-known _ at _ range;
+      read-key = λ κs text at n range. line-known _ at _ range;
+      put-bytes = λ κs buffer at s. laid _ _;
+      put-number = λ κs buffer at n. laid _ _;
+      put-line = λ κs buffer at head n. laid _ _;
+      put-key = λ κs buffer at n v. laid _ _;
+      put-keys = λ κs buffer at first values. laid _ _;
+      line-length = λ n v. bounded _ _;
+      lines-length = λ κs first values. bounded _ _;
+      put-row = λ κs buffer row. filled _;
+      pass = λ κs ring c x. filled _;
+    }

@@ -1,0 +1,89 @@
+-- Document 01, "What the contracts have to say": two outcomes that a contract permits are the same, in value and in every lent byte.
+-- `Post` is what the checker itself reads in the `ensures` of src/: an `ensures` that says less breaks the claim.
+use Prim.Native.Nat.{ℕ}
+use mathlib.Core.Path.{_≡_}
+use mathlib.Core.List.{List}
+use denote.Ref.{RefT, at-last}
+use contract.Lifetimes.{Lfts}
+use Rattle.answer.specs.declared.Answer.{Answer}
+use Rattle.text.specs.declared.Range.{Range}
+use Rattle.settings.specs.declared.Settings.{Settings}
+use Rattle.board.specs.declared.Board.{Board}
+use Rattle.answer.proofs.Answer.number.Reads as number-contract
+use Rattle.answer.proofs.Answer.is_done.Reads as is-done-contract
+use Rattle.text.proofs.read_number.Reads as read-number-contract
+use Rattle.text.proofs.read_line.Reads as read-line-contract
+use Rattle.text.proofs.put_bytes.Reads as put-bytes-contract
+use Rattle.text.proofs.put_number.Reads as put-number-contract
+use Rattle.text.proofs.put_line.Reads as put-line-contract
+use Rattle.keys.proofs.read_line.Reads as read-key-contract
+use Rattle.keys.proofs.put_line.Reads as put-key-contract
+use Rattle.keys.proofs.put_lines.Reads as put-keys-contract
+use Rattle.keys.proofs.line_length.Reads as line-length-contract
+use Rattle.keys.proofs.lines_length.Reads as lines-length-contract
+use Rattle.settings.proofs.Settings.read.Reads as read-contract
+use Rattle.settings.proofs.Settings.write.Reads as write-contract
+use Rattle.settings.proofs.Settings.check.Reads as check-contract
+use Rattle.settings.proofs.Settings.standard.Reads as standard-contract
+use Rattle.settings.proofs.Settings.text_length.Reads as settings-length-contract
+use Rattle.throttle.proofs.pass.Reads as pass-contract
+use Rattle.records.proofs.refusal.Reads as refusal-contract
+use Rattle.records.proofs.put_row.Reads as put-row-contract
+use Rattle.board.proofs.Board.fresh.Reads as fresh-contract
+use Rattle.board.proofs.Board.block.Reads as block-contract
+use Rattle.board.proofs.Board.is_sound.Reads as is-sound-contract
+use Rattle.report.proofs.write.Reads as report-contract
+use Rattle.report.proofs.text_length.Reads as report-length-contract
+use Rattle.replay.proofs.opened.Reads as opened-contract
+use Rattle.replay.proofs.run_blocks.Reads as run-blocks-contract
+
+-- at most one outcome is permitted
+abbrev pub One : {Out : Type 0} → (Out → Type 0) → Type 0
+One {Out} permits = (a b : Out) → permits a → permits b → a ≡ b
+
+-- bytes, or the words of a ring, that are lent
+abbrev pub Lent : Type 0
+Lent = RefT (List ℕ)
+
+-- nothing is lent to be written, so what came in is there at exit: an outcome is the value
+abbrev pub OneValue : {In Out : Type 0} → (In → Out → In → Type 0) → In → Type 0
+OneValue {Out = Out} post came = One (λ (r : Out). post came r came)
+
+-- one buffer is lent to be written: an outcome is the value, and the bytes that the buffer has at exit
+abbrev pub OneFilling : {In Out : Type 0} → (In → Out → In → Type 0) → (Lent → In) → Lent → Type 0
+OneFilling {Out = Out} post with out = One (λ (o : Out × List ℕ). post (with out) (o .0) (with (at-last out (o .1))))
+
+-- a `requires` is no premise: without it too, one outcome is permitted
+pub record OneOutcome : Type 0 where
+  -- what the desk offers
+  pub read : (κs : Lfts 1) (text : Lent) → OneValue (read-contract.Post κs) (text, tt)
+  pub write : (κs : Lfts 1) (s : Settings) (buffer : Lent) → OneFilling (write-contract.Post κs) (λ out. (s, (out, tt))) buffer
+  pub check : (s : Settings) → OneValue (check-contract.Post tt) (s, tt)
+  pub fresh : (s : Settings) → OneValue (fresh-contract.Post tt) (s, tt)
+  pub block : (κs : Lfts 2) (board : Board) (log rows : Lent) → OneFilling (block-contract.Post κs) (λ out. (board, (log, (out, tt)))) rows
+  pub is-sound : (board : Board) → OneValue (is-sound-contract.Post tt) (board, tt)
+  pub report : (κs : Lfts 1) (board : Board) (buffer : Lent) → OneFilling (report-contract.Post κs) (λ out. (board, (out, tt))) buffer
+  -- what else the programs call
+  pub opened : (κs : Lfts 1) (text : Lent) → OneValue (opened-contract.Post κs) (text, tt)
+  pub run-blocks : (κs : Lfts 2) (board : Board) (log rows : Lent) → OneFilling (run-blocks-contract.Post κs) (λ out. (board, (log, (out, tt)))) rows
+  pub report-length : (board : Board) → OneValue (report-length-contract.Post tt) (board, tt)
+  pub standard : OneValue (standard-contract.Post tt) tt
+  pub settings-length : (s : Settings) → OneValue (settings-length-contract.Post tt) (s, tt)
+  pub number : (a : Answer) → OneValue (number-contract.Post tt) (a, tt)
+  pub is-done : (a : Answer) → OneValue (is-done-contract.Post tt) (a, tt)
+  -- every other public function whose `ensures` is no plain equation of the result
+  pub refusal : (κs : Lfts 1) (done : ℕ) (log : Lent) (room : ℕ) → OneValue (refusal-contract.Post κs) (done, (log, (room, tt)))
+  pub read-number : (κs : Lfts 1) (text : Lent) (at digits : ℕ) → OneValue (read-number-contract.Post κs) (text, (at, (digits, tt)))
+  pub read-line : (κs : Lfts 2) (text : Lent) (at : ℕ) (head : Lent) (range : Range) → OneValue (read-line-contract.Post κs) (text, (at, (head, (range, tt))))
+  pub read-key : (κs : Lfts 1) (text : Lent) (at n : ℕ) (range : Range) → OneValue (read-key-contract.Post κs) (text, (at, (n, (range, tt))))
+  pub put-bytes : (κs : Lfts 2) (buffer : Lent) (at : ℕ) (s : Lent) → OneFilling (put-bytes-contract.Post κs) (λ out. (out, (at, (s, tt)))) buffer
+  pub put-number : (κs : Lfts 1) (buffer : Lent) (at n : ℕ) → OneFilling (put-number-contract.Post κs) (λ out. (out, (at, (n, tt)))) buffer
+  pub put-line : (κs : Lfts 2) (buffer : Lent) (at : ℕ) (head : Lent) (n : ℕ)
+      → OneFilling (put-line-contract.Post κs) (λ out. (out, (at, (head, (n, tt))))) buffer
+  pub put-key : (κs : Lfts 1) (buffer : Lent) (at n v : ℕ) → OneFilling (put-key-contract.Post κs) (λ out. (out, (at, (n, (v, tt))))) buffer
+  pub put-keys : (κs : Lfts 2) (buffer : Lent) (at first : ℕ) (values : Lent)
+      → OneFilling (put-keys-contract.Post κs) (λ out. (out, (at, (first, (values, tt))))) buffer
+  pub line-length : (n v : ℕ) → OneValue (line-length-contract.Post tt) (n, (v, tt))
+  pub lines-length : (κs : Lfts 1) (first : ℕ) (values : Lent) → OneValue (lines-length-contract.Post κs) (first, (values, tt))
+  pub put-row : (κs : Lfts 1) (buffer : Lent) (row : List ℕ) → OneFilling (put-row-contract.Post κs) (λ out. (out, (row, tt))) buffer
+  pub pass : (κs : Lfts 1) (ring : Lent) (c x : ℕ) → OneFilling (pass-contract.Post κs) (λ marks. (marks, (c, (x, tt)))) ring

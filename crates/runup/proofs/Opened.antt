@@ -1,0 +1,25 @@
+-- Every definition that a walk over crossings computes with, from START on, under one name.
+-- So a proof that computes one says `unfolding opened`, and the list stands once.
+use Prim.Native.Nat.{ℕ}
+use Rattle.laws.specs.Base.{allB, mapI, tabulate}
+use Rattle.settings.specs.Read.{standard}
+use Rattle.throttle.specs.Windows.{countOf, freeAfter}
+use Rattle.clock.specs.Clock.{tickedOf}
+use Rattle.clock.specs.Turn.{nextFrom, takesOver, fallenOf, turnedOf, freshTurn}
+use Rattle.states.specs.Moves.{moveOf, entryWait, movedOf, orbitCode}
+use Rattle.states.specs.Commands.{takes, stateAfter}
+use Rattle.ptc.specs.Command.{commandedOf}
+use Rattle.ptc.specs.Counts.{fateOf, lostTo, requestedOf, calibratedOf}
+use Rattle.ptc.specs.Crossing.{crossedOf}
+use Rattle.ptc.specs.Cycle.{keptOf, openedOf, cycleCode, asksOf}
+use Rattle.records.specs.Records.{askedIn}
+use Rattle.records.specs.Rows.{rowByte, crossingRow, carries}
+use Rattle.board.specs.Crossing.{turnIn, actOf, byteOf, clockOf}
+use Rattle.board.specs.Command.{commandIn, boardCommanded}
+use Rattle.board.specs.Run.{stepped}
+use Rattle.board.specs.Fresh.{freshBoard}
+use Rattle.runup.proofs.Walk.{walk, walked}
+
+unfoldable pub opened : ℕ
+unfolding walk walked allB mapI tabulate standard countOf freeAfter tickedOf nextFrom takesOver fallenOf turnedOf freshTurn moveOf entryWait movedOf orbitCode takes stateAfter commandedOf fateOf lostTo requestedOf calibratedOf crossedOf keptOf openedOf cycleCode asksOf askedIn rowByte crossingRow carries turnIn actOf byteOf clockOf commandIn boardCommanded stepped freshBoard
+opened = 0

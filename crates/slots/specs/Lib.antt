@@ -1,0 +1,4 @@
+pub mod Round
+pub mod Orbits
+pub mod Slots
+pub mod Rounds
