@@ -28,13 +28,14 @@ use Rattle.records.specs.Records.{recAt, isCrossing, askedIn}
 use Rattle.records.specs.Rows.{commandRow}
 use Rattle.records.specs.Refusal.{recordsIn}
 use Rattle.board.specs.declared.Board.{Board}
-use Rattle.board.specs.Command.{freshPtc, commandIn, boardCommanded, rowCommanded}
+use Rattle.ptc.specs.Fresh.{freshPtc}
+use Rattle.board.specs.Command.{commandIn, boardCommanded, rowCommanded}
 use Rattle.board.specs.Run.{stepped, rowOf, ran}
 use Rattle.board.specs.Sound.{soundBoard}
 use Rattle.board.specs.Fresh.{freshBoard}
 use Rattle.board.proofs.Settled.{sound-parts}
 use Rattle.board.proofs.Keeps.{Fit, ptc-at}
-use Rattle.report.specs.Report.{commonValues, blockOf, blocksFrom, reportText, reportAnswer, reported}
+use Rattle.report.specs.Report.{commonValues, controllerText, blocksFrom, reportText, reportAnswer, reported}
 use Rattle.logbook.specs.Row.{rowAt, takenIn}
 use Rattle.logbook.specs.Whole.{Taken, Crossing, whole}
 use Rattle.logbook.proofs.Decoding.{row-taken}
@@ -184,17 +185,17 @@ module _ {s : Settings} {log buffer : List ℕ} (t : Taken s log buffer) (k : �
 -- ---- the report
 
 -- a block is what a controller's state, counts and events are
-block-same : (s : Settings) (k : ℕ) (p : Ptc) (r : Reading) → p .counts ≡ r .counts → p .events ≡ r .events → blockOf s k p ≡ blockOf s k (shownAs r (p .state))
-unfolding blockOf
+block-same : (s : Settings) (k : ℕ) (p : Ptc) (r : Reading) → p .counts ≡ r .counts → p .events ≡ r .events → controllerText s k p ≡ controllerText s k (shownAs r (p .state))
+unfolding controllerText
 block-same s k p r c e = rw (c, e)
 
 blocks-same : (s : Settings) (f : ℕ → Ptc → Ptc) (j : ℕ) (ps : List Ptc)
-    → ((k : ℕ) → k < length ps → blockOf s (j + k) (getD ps k freshPtc) ≡ blockOf s (j + k) (f (j + k) (getD ps k freshPtc)))
+    → ((k : ℕ) → k < length ps → controllerText s (j + k) (getD ps k freshPtc) ≡ controllerText s (j + k) (f (j + k) (getD ps k freshPtc)))
     → blocksFrom s j ps ≡ blocksFrom s j (mapI f j ps)
 unfolding blocksFrom mapI
 blocks-same s f j [] each = refl
 blocks-same s f j (p ∷ ps) each =
-    let first : blockOf s j p ≡ blockOf s j (f j p) = rw add-zero at (each 0 (omega arith)) in
+    let first : controllerText s j p ≡ controllerText s j (f j p) = rw add-zero at (each 0 (omega arith)) in
     let rest = blocks-same s f (suc j) ps (λ k h. rw (suc-add, ← add-suc) (each (suc k) (omega arith))) in
     rw (first, rest)
 

@@ -1,9 +1,9 @@
 -- A trigger is sent exactly where it is due: what the bench sees of a crossing is what the controller's crossing gave, and there the
 -- definitions go by the same tests. The open cycle is the reading's, which follows the controller's.
-use mathlib.Core.Path.{_≡_, refl, ap, _∙_}
+use mathlib.Core.Path.{_≡_, refl, ap}
 use mathlib.Core.Bool.{Bool, true, false, not, _&&_}
 use mathlib.Core.List.{List}
-use Prim.Native.Nat.{ℕ, _≤_, _<_}
+use Prim.Native.Nat.{ℕ, _<_}
 use native.Mathlib.Omega.{arith}
 use lib.Dec.{eqb}
 use lib.ListN.{getD}

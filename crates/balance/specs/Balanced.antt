@@ -14,7 +14,7 @@ use Rattle.ptc.specs.declared.counts.Counts.{Counts}
 use Rattle.ptc.specs.Sound.{lostSum}
 use Rattle.records.specs.Refusal.{recordsIn}
 use Rattle.board.specs.declared.Board.{Board}
-use Rattle.board.specs.Command.{freshPtc}
+use Rattle.ptc.specs.Fresh.{freshPtc}
 use Rattle.report.specs.Report.{commonValues, blocksFrom, reported}
 use Rattle.logbook.specs.Whole.{Taken, Crossing, whole}
 use Rattle.balance.specs.Reading.{Reading, lookAt, readingOf}

@@ -42,7 +42,7 @@ pub record Look : Type 0 where
   pub number : ℕ
   pub clear : Bool
 
-unfoldable pub lookAt : Settings → List ℕ → List ℕ → ℕ → ℕ → Look
+unfoldable pub lookAt : (s : Settings) (log rows : List ℕ) (k i : ℕ) → Look
 lookAt s log rows k i = record {
   asked = askedIn (getD (recAt log i) 2 0) k;
   sent = sentIn (rowAt rows i) k;

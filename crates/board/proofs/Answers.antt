@@ -12,7 +12,7 @@ use Rattle.answer.specs.declared.Answer.{Answer}
 use Rattle.answer.specs.Told.{told, succeeded, DONE, BOARD}
 use Rattle.answer.proofs.Told.{not-done, told-done}
 use Rattle.records.specs.Records.{firstIll, crossingsIn}
-use Rattle.records.specs.Refusal.{MOST, recordsIn, refusalOf, Ready}
+use Rattle.records.specs.Refusal.{LIFETIME, recordsIn, refusalOf, Ready}
 use Rattle.records.proofs.Laws.{ready}
 use Rattle.board.specs.declared.Board.{Board}
 use Rattle.board.specs.Run.{ran, rowsOf}
@@ -38,7 +38,7 @@ module _ (b : Board) (log rows : List ℕ) (a : Answer) (is : told a ≡ answerO
       × (length log ≡ 24 * recordsIn log)
       × (12 * recordsIn log ≤ length rows)
       × (firstIll (recordsIn log) log ≡ recordsIn log)
-      × (b .clock .crossings + crossingsIn (recordsIn log) log ≤ MOST)
+      × (b .clock .crossings + crossingsIn (recordsIn log) log ≤ LIFETIME)
   run-asked d =
       let r = block-ready b log (length rows) (sym is ∙ told-done a d) in
       (r .0, r .1 .whole, r .1 .space, r .1 .formed, r .1 .life)

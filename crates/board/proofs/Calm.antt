@@ -30,15 +30,15 @@ use Rattle.ptc.specs.declared.Ptc.{Ptc}
 use Rattle.ptc.specs.declared.Plan.{Plan}
 use Rattle.ptc.specs.declared.Scene.{Scene}
 use Rattle.ptc.specs.declared.Crossed.{Crossed}
-use Rattle.ptc.specs.Rest.{atRest, restedOf}
+use Rattle.ptc.specs.support.Rest.{atRest, restedOf}
 use Rattle.ptc.proofs.Rest.{rest-crossed, rest-silent, rest-stays, rest-shows}
 use Rattle.records.specs.Records.{isCrossing, markerIn, askedIn, codesIn}
 use Rattle.records.specs.Rows.{rowByte, crossingRow, carries, clearsOrbit}
 use Rattle.board.specs.declared.Board.{Board}
 use Rattle.board.specs.Kit.{planOf}
 use Rattle.board.specs.Crossing.{turnIn, freeNow, sceneAt, sceneOf, actOf, ptcOf, byteOf, shownOf, eight, clockOf, boardCrossed, rowCrossed}
-use Rattle.board.specs.Command.{freshPtc}
-use Rattle.board.specs.Still.{calmUnder, stillRow, plainNumber, plainRecord, plainCrossing}
+use Rattle.ptc.specs.Fresh.{freshPtc}
+use Rattle.board.specs.support.Still.{calmUnder, stillRow, plainNumber, plainRecord, plainCrossing}
 
 -- ---- requests of the holder alone
 

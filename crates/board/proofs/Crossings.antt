@@ -14,14 +14,14 @@ use Rattle.laws.proofs.Bools.{and-yes}
 use Rattle.settings.specs.Names.{orbitOf, rulesOf, warnBlocksOf}
 use Rattle.status.specs.Codes.{Coded}
 use Rattle.status.specs.Merge.{classes}
-use Rattle.status.specs.Merger.{voted}
+use Rattle.status.specs.support.Merger.{voted}
 use Rattle.status.proofs.Laws.{one-pass}
 use Rattle.throttle.specs.Rules.{Sensible}
 use Rattle.clock.specs.declared.Clock.{Clock}
 use Rattle.clock.specs.declared.Turn.{Turn}
 use Rattle.clock.specs.Clock.{numberOf, orbitEnds}
 use Rattle.clock.specs.Turn.{turnedOf}
-use Rattle.clock.specs.Room.{ClockRoom, SlotRoom}
+use Rattle.clock.specs.support.Room.{ClockRoom, SlotRoom}
 use Rattle.clock.proofs.Keeps.{clock-roomy, holder-most}
 use Rattle.states.specs.Names.{statusOf}
 use Rattle.states.proofs.Keeps.{status-low}
@@ -30,7 +30,7 @@ use Rattle.ptc.specs.declared.Plan.{Plan}
 use Rattle.ptc.specs.declared.Scene.{Scene}
 use Rattle.records.specs.Records.{well, markerIn, codesIn}
 use Rattle.records.specs.Rows.{carries, crossingRow}
-use Rattle.records.specs.Refusal.{MOST}
+use Rattle.records.specs.Refusal.{LIFETIME}
 use Rattle.records.proofs.Laws.{code-low}
 use Rattle.board.specs.declared.Board.{Board}
 use Rattle.board.specs.declared.Kit.{Kit}
@@ -62,7 +62,7 @@ pub clock-room : (b : Board) → soundBoard b ≡ true → ClockRoom (b .clock)
 clock-room b e =
     let p = sound-parts b e in
     let orbit = orbit-some (b .settings) (p .checks) in
-    clock-roomy MOST (orbitOf (b .settings)) (b .clock) (omega arith) (omega arith) (p .clock)
+    clock-roomy LIFETIME (orbitOf (b .settings)) (b .clock) (omega arith) (omega arith) (p .clock)
 
 module _ (b : Board) (kit : Kit) (own : kit ≡ kitOf (b .settings)) where
   pub turn-asked : soundBoard b ≡ true → (SlotRoom (kit .slots)) × (b .turn .holder ≤ 8)

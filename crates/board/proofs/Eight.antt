@@ -14,16 +14,16 @@ use Rattle.ptc.specs.declared.Ptc.{Ptc}
 use Rattle.ptc.specs.declared.Plan.{Plan}
 use Rattle.ptc.specs.declared.Scene.{Scene}
 use Rattle.ptc.specs.declared.Crossed.{Crossed}
-use Rattle.ptc.specs.Room.{Room}
+use Rattle.ptc.specs.support.Room.{Room}
 use Rattle.ptc.specs.Sound.{soundPtc}
 use Rattle.ptc.specs.Crossing.{crossedOf}
 use Rattle.ptc.proofs.Keeps.{roomy}
 use Rattle.ptc.proofs.Triggers.{code-fits}
 use Rattle.records.specs.Records.{askedIn}
 use Rattle.records.specs.Rows.{rowByte}
-use Rattle.records.specs.Refusal.{MOST}
+use Rattle.records.specs.Refusal.{LIFETIME}
 use Rattle.board.specs.Crossing.{actOf, byteOf, shownOf}
-use Rattle.board.specs.Command.{freshPtc}
+use Rattle.ptc.specs.Fresh.{freshPtc}
 use Rattle.board.specs.Sound.{soundEight}
 
 module _ (plan : Plan) (scene : Scene) (classes : List ℕ) (requests k : ℕ) (p : Ptc) (o : Crossed) where
@@ -47,7 +47,7 @@ module _ (plan : Plan) (scene : Scene) (classes : List ℕ) (requests k : ℕ) (
   acted-code e = rw e (omega (arith, code-fits plan scene k (getD classes k 0) (askedIn requests k) p))
 
 -- a sound controller's counts have room for one more
-pub room-at : (holder m : ℕ) (ps : List Ptc) (k : ℕ) → m < MOST → soundEight holder m ps ≡ true → k < length ps → Room (getD ps k freshPtc)
+pub room-at : (holder m : ℕ) (ps : List Ptc) (k : ℕ) → m < LIFETIME → soundEight holder m ps ≡ true → k < length ps → Room (getD ps k freshPtc)
 unfolding soundEight
 room-at holder m ps k h e l =
     roomy k (eqb k holder) m (getD ps k freshPtc) (omega arith)

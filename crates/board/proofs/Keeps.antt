@@ -32,12 +32,13 @@ use Rattle.ptc.proofs.Balance.{none-sound}
 use Rattle.ptc.proofs.Keeps.{crossed-sound, commanded-sound}
 use Rattle.records.specs.Records.{recAt, isCrossing, markerIn, askedIn, codesIn, crossingsIn}
 use Rattle.records.specs.Rows.{carries, clearsOrbit}
-use Rattle.records.specs.Refusal.{MOST}
+use Rattle.records.specs.Refusal.{LIFETIME}
 use Rattle.records.proofs.Laws.{crossings-below, row-long, command-row-long}
 use Rattle.board.specs.declared.Board.{Board}
 use Rattle.board.specs.Kit.{slotsOf, planOf}
 use Rattle.board.specs.Crossing.{turnIn, sceneOf, actOf, ptcOf, byteOf, shownOf, eight, clockOf, boardCrossed, rowCrossed}
-use Rattle.board.specs.Command.{freshPtc, commandIn, boardCommanded, rowCommanded}
+use Rattle.ptc.specs.Fresh.{freshPtc}
+use Rattle.board.specs.Command.{commandIn, boardCommanded, rowCommanded}
 use Rattle.board.specs.Run.{stepped, rowOf, ran, rowsOf}
 use Rattle.board.specs.Sound.{soundEight, soundBoard}
 use Rattle.board.specs.Fresh.{freshBoard}
@@ -92,13 +93,13 @@ module _ (b : Board) (rec : List ℕ) where
 
 -- an orbit count of 0 is within the crossings done
 cleared-sound : (most orbit : ℕ) (t : Clock) (clears : Bool) → soundClock most orbit t ≡ true
-    → soundClock most orbit (record { crossings = t .crossings; next = t .next; orbit = if clears 0 (t .orbit); errors = t .errors }) ≡ true
+    → soundClock most orbit (record { crossings = t .crossings; next = t .next; orbits = if clears 0 (t .orbits); errors = t .errors }) ≡ true
 unfolding soundClock
 cleared-sound most orbit t false e = e
 cleared-sound most orbit t true e =
     let x = both (leb (t .crossings) most) _ e in
     let y = both (ltb (t .next) orbit) _ (x .1) in
-    let z = both (leb (t .orbit) (t .crossings)) (leb (t .errors) (t .crossings)) (y .1) in
+    let z = both (leb (t .orbits) (t .crossings)) (leb (t .errors) (t .crossings)) (y .1) in
     rw (x .0, y .0, z .1, le-leb 0 (t .crossings) (omega arith))
 
 -- the test of the controller at a place
@@ -120,7 +121,7 @@ eight-crossed b rec p =
     (λ k q h. crossed-sound (planOf s) scene k (getD (classes s (codesIn rec)) k 0) (asked k) (eqb k own) m q w h)
     0 (b .ptcs) (p .eight)
 
-pub crossing-sound : (b : Board) (rec : List ℕ) → length (b .marks) ≡ 32 → b .clock .crossings < MOST → soundBoard b ≡ true
+pub crossing-sound : (b : Board) (rec : List ℕ) → length (b .marks) ≡ 32 → b .clock .crossings < LIFETIME → soundBoard b ≡ true
     → soundBoard (boardCrossed b rec) ≡ true
 unfolding boardCrossed clockOf turnIn tickedOf
 crossing-sound b rec long room e =
@@ -128,11 +129,11 @@ crossing-sound b rec long room e =
     let orbit = orbitOf (b .settings) in
     let marker = markerIn rec in
     let bytes = eight byteOf b rec in
-    let ticked = ticked-sound MOST orbit (b .clock) marker (orbit-some (b .settings) (p .checks) .0) room (p .clock) in
+    let ticked = ticked-sound LIFETIME orbit (b .clock) marker (orbit-some (b .settings) (p .checks) .0) room (p .clock) in
     parts-sound (boardCrossed b rec)
     (record {
       checks = p .checks;
-      clock = cleared-sound MOST orbit (tickedOf orbit (b .clock) marker) (clearsOrbit bytes) ticked;
+      clock = cleared-sound LIFETIME orbit (tickedOf orbit (b .clock) marker) (clearsOrbit bytes) ticked;
       turn = turned-sound (slotsOf (b .settings)) (orbitEnds (b .clock) marker) (b .turn) (slots-long (b .settings)) (p .turn);
       eight = eight-crossed b rec p;
       marks = passed-sound (b .marks) (b .clock .crossings) (one (carries bytes)) long (omega (arith, one-le (carries bytes))) (p .marks);
@@ -176,7 +177,7 @@ pub record Fit (b : Board) : Type 0 where
   pub marks : length (b .marks) ≡ 32
   pub sound : soundBoard b ≡ true
 
-fresh-clock-sound : (orbit : ℕ) → 0 < orbit → soundClock MOST orbit freshClock ≡ true
+fresh-clock-sound : (orbit : ℕ) → 0 < orbit → soundClock LIFETIME orbit freshClock ≡ true
 unfolding soundClock
 fresh-clock-sound orbit h = rw (lt-ltb 0 orbit h)
 
@@ -201,7 +202,7 @@ module _ (s : Settings) (ok : checked s ≡ DONE) where
   unfolding freshBoard
   fresh-fit = record { ptcs = refl; marks = refl; sound = fresh-sound }
 
-pub stepped-fit : (b : Board) (rec : List ℕ) → Fit b → (isCrossing rec ≡ true → b .clock .crossings < MOST) → Fit (stepped b rec)
+pub stepped-fit : (b : Board) (rec : List ℕ) → Fit b → (isCrossing rec ≡ true → b .clock .crossings < LIFETIME) → Fit (stepped b rec)
 unfolding stepped
 stepped-fit b rec f room =
     record {
@@ -231,10 +232,10 @@ module _ (b : Board) (log : List ℕ) where
   ran-ptcs-long (suc i) = stepped-ptcs-long (ran i b log) (recAt log i) ∙ ran-ptcs-long i
 
   -- a run within a board's life has room for each of its crossings
-  pub ran-room : (n i : ℕ) → b .clock .crossings + crossingsIn n log ≤ MOST → i < n → isCrossing (recAt log i) ≡ true → ran i b log .clock .crossings < MOST
+  pub ran-room : (n i : ℕ) → b .clock .crossings + crossingsIn n log ≤ LIFETIME → i < n → isCrossing (recAt log i) ≡ true → ran i b log .clock .crossings < LIFETIME
   ran-room n i life h e = omega (arith, ran-count i, crossings-below i n log h e)
 
-pub ran-fit : (n : ℕ) (b : Board) (log : List ℕ) → Fit b → b .clock .crossings + crossingsIn n log ≤ MOST → (i : ℕ) → i ≤ n → Fit (ran i b log)
+pub ran-fit : (n : ℕ) (b : Board) (log : List ℕ) → Fit b → b .clock .crossings + crossingsIn n log ≤ LIFETIME → (i : ℕ) → i ≤ n → Fit (ran i b log)
 unfolding ran
 ran-fit n b log f life zero h = f
 ran-fit n b log f life (suc i) h = stepped-fit (ran i b log) (recAt log i) (ran-fit n b log f life i (omega arith)) (ran-room b log n i life h)

@@ -22,9 +22,9 @@ use Rattle.throttle.specs.Sound.{soundMarks}
 use Rattle.clock.specs.declared.Clock.{Clock}
 use Rattle.clock.specs.Clock.{soundClock}
 use Rattle.clock.specs.Turn.{soundTurn}
-use Rattle.clock.specs.Room.{SlotRoom}
+use Rattle.clock.specs.support.Room.{SlotRoom}
 use Rattle.states.specs.Sound.{soundWaits}
-use Rattle.records.specs.Refusal.{MOST}
+use Rattle.records.specs.Refusal.{LIFETIME}
 use Rattle.board.specs.declared.Board.{Board}
 use Rattle.board.specs.Kit.{slotsOf}
 use Rattle.board.specs.Sound.{soundEight, soundBoard}
@@ -60,7 +60,7 @@ orbit-some s ok = omega (arith, bounded s ok)
 
 pub record Parts (b : Board) : Type 0 where
   pub checks : checked (b .settings) ≡ DONE
-  pub clock : soundClock MOST (orbitOf (b .settings)) (b .clock) ≡ true
+  pub clock : soundClock LIFETIME (orbitOf (b .settings)) (b .clock) ≡ true
   pub turn : soundTurn (slotsOf (b .settings)) (b .turn) ≡ true
   pub eight : soundEight (b .turn .holder) (b .clock .crossings) (b .ptcs) ≡ true
   pub marks : soundMarks (b .clock .crossings) (b .marks) ≡ true
@@ -69,7 +69,7 @@ pub sound-parts : (b : Board) → soundBoard b ≡ true → Parts b
 unfolding soundBoard
 sound-parts b e =
     let m = b .clock .crossings in
-    let clock = soundClock MOST (orbitOf (b .settings)) (b .clock) in
+    let clock = soundClock LIFETIME (orbitOf (b .settings)) (b .clock) in
     let turn = soundTurn (slotsOf (b .settings)) (b .turn) in
     let eight = soundEight (b .turn .holder) m (b .ptcs) in
     let marks = soundMarks m (b .marks) in
@@ -84,6 +84,6 @@ unfolding soundBoard
 parts-sound b p = rw (checks-done (b .settings) (p .checks), p .clock, p .turn, p .eight, p .marks)
 
 -- a sound clock has not passed the end of the board's life
-pub within-life : (orbit : ℕ) (c : Clock) → soundClock MOST orbit c ≡ true → c .crossings ≤ MOST
+pub within-life : (orbit : ℕ) (c : Clock) → soundClock LIFETIME orbit c ≡ true → c .crossings ≤ LIFETIME
 unfolding soundClock
-within-life orbit c e = leb-true _ _ (both (leb (c .crossings) MOST) _ e .0)
+within-life orbit c e = leb-true _ _ (both (leb (c .crossings) LIFETIME) _ e .0)

@@ -14,18 +14,18 @@ use Rattle.laws.proofs.Bools.{both}
 use Rattle.settings.specs.Names.{scheduleOf}
 use Rattle.status.specs.Codes.{Coded}
 use Rattle.status.specs.Merge.{classes}
-use Rattle.status.specs.Merger.{voted}
+use Rattle.status.specs.support.Merger.{voted}
 use Rattle.throttle.specs.Marks.{passed}
 use Rattle.throttle.specs.Rules.{Sensible, free}
 use Rattle.clock.specs.declared.Clock.{Clock}
 use Rattle.clock.specs.Clock.{tickedOf}
-use Rattle.clock.specs.Room.{ClockRoom}
+use Rattle.clock.specs.support.Room.{ClockRoom}
 use Rattle.ptc.specs.declared.Scene.{Scene}
 use Rattle.ptc.specs.declared.Crossed.{Crossed}
-use Rattle.ptc.specs.Room.{Room}
-use Rattle.ptc.specs.Rest.{restedOf}
+use Rattle.ptc.specs.support.Room.{Room}
+use Rattle.ptc.specs.support.Rest.{restedOf}
 use Rattle.records.specs.Records.{recAt, isCrossing, codesIn, sameCodes, well, firstIll, crossingsIn}
-use Rattle.records.specs.Refusal.{MOST}
+use Rattle.records.specs.Refusal.{LIFETIME}
 use Rattle.records.proofs.Laws.{rec-long, rec-byte, rec-bytes, lent, well-at, same-codes}
 use Rattle.records.proofs.Laid.{laid}
 use Rattle.board.specs.declared.Board.{Board}
@@ -33,7 +33,7 @@ use Rattle.board.specs.declared.Kit.{Kit}
 use Rattle.board.specs.Kit.{kitOf}
 use Rattle.board.specs.Run.{stepped, rowOf, ran, rowsOf}
 use Rattle.board.specs.Sound.{soundBoard}
-use Rattle.board.specs.Still.{calmUnder, stillRow, plainCrossing}
+use Rattle.board.specs.support.Still.{calmUnder, stillRow, plainCrossing}
 use Rattle.board.proofs.Settled.{sound-parts}
 use Rattle.board.proofs.Eight.{room-at}
 use Rattle.board.proofs.Crossings.{coded, clock-room, scene-asked, classes-is}
@@ -45,7 +45,7 @@ pub record Begun (first : Board) (log : List ℕ) (n : ℕ) (kit : Kit) (i : ℕ
   pub fit : Fit first
   pub long : length log ≡ 24 * n
   pub formed : firstIll n log ≡ n
-  pub life : first .clock .crossings + crossingsIn n log ≤ MOST
+  pub life : first .clock .crossings + crossingsIn n log ≤ LIFETIME
   pub bytes : (k : ℕ) → getD log k 0 < 256
   pub made : kit ≡ kitOf (first .settings)
   pub less : i < n
@@ -76,7 +76,7 @@ module _ {first : Board} {log : List ℕ} {n : ℕ} {kit : Kit} {i : ℕ} {b : B
   well-here : well (recAt log i) ≡ true
   well-here = well-at n log (t .formed) i (t .less)
 
-  room-left : isCrossing (recAt log i) ≡ true → b .clock .crossings < MOST
+  room-left : isCrossing (recAt log i) ≡ true → b .clock .crossings < LIFETIME
   room-left = rw (t .here) (ran-room first log n i (t .life) (t .less))
 
   pub coded-at : Coded (codesIn (recAt log i))
@@ -91,7 +91,7 @@ module _ {first : Board} {log : List ℕ} {n : ℕ} {kit : Kit} {i : ℕ} {b : B
       × (got ≡ classes (b .settings) (codesIn (lentAt log i)))
       × (length (lentAt log i) ≡ 24)
       × (well (lentAt log i) ≡ true)
-      × (isCrossing (lentAt log i) ≡ true → b .clock .crossings < MOST)
+      × (isCrossing (lentAt log i) ≡ true → b .clock .crossings < LIFETIME)
   step-asked got e =
       (fit-at .sound, own-at, rw (lent log i) (merged-at got e), rw (lent log i) long-at, rw (lent log i) well-here, rw (lent log i) room-left)
 
@@ -161,7 +161,7 @@ module _ {first : Board} {log : List ℕ} {n : ℕ} {kit : Kit} {i : ℕ} {b : B
         shows = c .shows;
       }
 
-  pub still-asked : Still kit got row b (recAt log i) → (Sensible (kit .rules)) × (Room (holding b)) × (ClockRoom (b .clock)) × (b .clock .crossings < MOST)
+  pub still-asked : Still kit got row b (recAt log i) → (Sensible (kit .rules)) × (Room (holding b)) × (ClockRoom (b .clock)) × (b .clock .crossings < LIFETIME)
   still-asked s =
       let sound = fit-at t .sound in
       let room = room-left t (s .kind) in (

@@ -3,17 +3,12 @@ use Prim.Native.Nat.{ℕ}
 use mathlib.Core.List.{List}
 use lib.ListN.{getD, set}
 use Rattle.settings.specs.Names.{waitsOf}
-use Rattle.ptc.specs.declared.Ptc.{Ptc}
 use Rattle.ptc.specs.declared.Commanded.{Commanded}
-use Rattle.ptc.specs.Counts.{noCounts}
+use Rattle.ptc.specs.Fresh.{freshPtc}
 use Rattle.ptc.specs.Command.{commandedOf}
 use Rattle.records.specs.Rows.{commandRow}
 use Rattle.board.specs.declared.Board.{Board}
 use Rattle.board.specs.Crossing.{withPtcs}
-
--- a controller of a fresh board: state 0, wait and counts 0, no cycle
-abbrev pub freshPtc : Ptc
-freshPtc = record { state = 0; wait = 0; cycle = 0; counts = noCounts; events = 0 }
 
 -- byte 1 = controller, byte 2 = command
 unfoldable pub commandIn : Board → List ℕ → Commanded

@@ -35,26 +35,26 @@ abbrev pub freeNow : Board → Bool → Bool
 freeNow b warn = free (rulesOf (b .settings)) (warnBlocksOf (b .settings)) (b .marks) (b .clock .crossings) warn
 
 -- what all eight see of this crossing. Only the holder can send, and the rules look at earlier crossings alone
-abbrev pub sceneAt : Board → ℕ → ℕ → Scene
+abbrev pub sceneAt : (b : Board) (number holder : ℕ) → Scene
 sceneAt b number holder = record { number = number; holder = holder; norm = freeNow b false; low = freeNow b true }
 
 unfoldable pub sceneOf : Board → Bool → Scene
 sceneOf b marker = sceneAt b (numberOf (b .clock) marker) (turnIn b marker .holder)
 
 -- steps 3 and 4 of controller k, by its own value and by what all see
-unfoldable pub actOf : Plan → Scene → List ℕ → ℕ → ℕ → Ptc → Crossed
+unfoldable pub actOf : (plan : Plan) (scene : Scene) (classes : List ℕ) (requests k : ℕ) (p : Ptc) → Crossed
 actOf plan scene classes requests k p = crossedOf plan scene k (getD classes k 0) (askedIn requests k) p
 
 -- of each controller: its next value, its byte of the row, and its status after the move
-abbrev pub ptcOf : Plan → Scene → List ℕ → ℕ → ℕ → Ptc → Ptc
+abbrev pub ptcOf : (plan : Plan) (scene : Scene) (classes : List ℕ) (requests k : ℕ) (p : Ptc) → Ptc
 ptcOf plan scene classes requests k p = actOf plan scene classes requests k p .ptc
 
-unfoldable pub byteOf : Plan → Scene → List ℕ → ℕ → ℕ → Ptc → ℕ
+unfoldable pub byteOf : (plan : Plan) (scene : Scene) (classes : List ℕ) (requests k : ℕ) (p : Ptc) → ℕ
 byteOf plan scene classes requests k p =
     let a = actOf plan scene classes requests k p in
     rowByte (a .code) (a .sent) (a .cal)
 
-unfoldable pub shownOf : Plan → Scene → List ℕ → ℕ → ℕ → Ptc → ℕ
+unfoldable pub shownOf : (plan : Plan) (scene : Scene) (classes : List ℕ) (requests k : ℕ) (p : Ptc) → ℕ
 shownOf plan scene classes requests k p = statusOf (actOf plan scene classes requests k p .ptc .state)
 
 -- f of each of the eight in this crossing; step 2 gives their classes
@@ -63,10 +63,10 @@ eight f b rec =
     mapI (f (planOf (b .settings)) (sceneOf b (markerIn rec)) (classes (b .settings) (codesIn rec)) (getD rec 2 0)) 0 (b .ptcs)
 
 -- step 1: the clock; controller 0's code 8 then sets the orbit count to 0
-unfoldable pub clockOf : ℕ → Clock → Bool → List ℕ → Clock
+unfoldable pub clockOf : (orbit : ℕ) (c : Clock) (marker : Bool) (bytes : List ℕ) → Clock
 clockOf orbit c marker bytes =
     let t = tickedOf orbit c marker in
-    record { crossings = t .crossings; next = t .next; orbit = if (clearsOrbit bytes) 0 (t .orbit); errors = t .errors }
+    record { crossings = t .crossings; next = t .next; orbits = if (clearsOrbit bytes) 0 (t .orbits); errors = t .errors }
 
 -- the board with the next clock and turn, and with this crossing's mark
 abbrev pub passedOn : Board → Clock → Turn → Bool → Board

@@ -4,7 +4,7 @@ use mathlib.Core.List.{List}
 use Rattle.laws.specs.Base.{tabulate}
 use Rattle.settings.specs.declared.Settings.{Settings}
 use Rattle.settings.specs.Names.{orbitOf, gapOf, rulesOf, warnBlocksOf, waitsOf, slotOf, scheduleOf}
-use Rattle.status.specs.Merger.{mergerOf}
+use Rattle.status.specs.support.Merger.{mergerOf}
 use Rattle.ptc.specs.declared.Plan.{Plan}
 use Rattle.board.specs.declared.Kit.{Kit}
 

@@ -1,8 +1,8 @@
 pub mod Kit
 pub mod Crossing
 pub mod Command
-pub mod Still
 pub mod Run
 pub mod Sound
 pub mod Fresh
 pub mod Block
+pub mod support

@@ -5,7 +5,6 @@ mod still;
 use answer::Answer;
 use clock::Clock;
 use clock::Turn;
-use ptc::Counts;
 use ptc::Plan;
 use ptc::Ptc;
 use ptc::Scene;
@@ -21,18 +20,18 @@ ghost use mathlib.Core.List.{_++_};
 ghost use Prim.Native.Nat.{_+_, _*_, _%_, _<_, _≤_};
 ghost use lib.Dec.{eqb};
 ghost use lib.ListN.{length, drop};
-ghost use Rattle.laws.specs.Base.{if, one, mapI};
+ghost use Rattle.laws.specs.Base.{if, mapI};
 ghost use Rattle.answer.specs.Told.{told, DONE};
 ghost use Rattle.settings.specs.Names.{rulesOf, warnBlocksOf, waitsOf};
 ghost use Rattle.settings.specs.Check.{checked};
 ghost use Rattle.throttle.specs.Rules.{Sensible};
-ghost use Rattle.clock.specs.Room.{ClockRoom};
-ghost use Rattle.records.specs.Refusal.{MOST};
+ghost use Rattle.clock.specs.support.Room.{ClockRoom};
+ghost use Rattle.records.specs.Refusal.{LIFETIME};
 ghost use Rattle.status.specs.Merge.{classes as classesOf};
 ghost use Rattle.records.specs.Records.{well, isCrossing, codesIn, firstIll, crossingsIn};
 ghost use Rattle.board.specs.Kit.{slotsOf, planOf, kitOf};
 ghost use Rattle.board.specs.Crossing.{withPtcs, sceneAt, ptcOf, byteOf, shownOf, clockOf, passedOn, boardCrossed, rowCrossed};
-ghost use Rattle.board.specs.Command.{freshPtc, boardCommanded, rowCommanded};
+ghost use Rattle.board.specs.Command.{boardCommanded, rowCommanded};
 ghost use Rattle.board.specs.Run.{stepped, rowOf, ran, rowsOf};
 ghost use Rattle.board.specs.Sound.{soundEight, soundBoard};
 ghost use Rattle.board.specs.Fresh.{freshBoard, madeOut, freshOf};
@@ -60,7 +59,7 @@ pub struct Ran {
 }
 
 // What of the settings a crossing goes by, made once for a block.
-pub struct Kit {
+struct Kit {
     pub orbit: u32,
     pub plan: Plan,
     pub rules: Rules,
@@ -113,19 +112,6 @@ impl Kit {
     }
 }
 
-fn fresh_ptc() -> Ptc
-    ensures { λ r. ⌜ r ≡ freshPtc ⌝ }
-{
-    let counts = Counts::none();
-    Ptc {
-        state: 0,
-        wait: 0,
-        cycle: 0,
-        counts: counts,
-        events: 0,
-    }
-}
-
 // A board from settings that pass the checks.
 fn from_checked(s: Settings) -> Board
     requires { ⌜ checked s ≡ DONE ⌝ }
@@ -135,11 +121,11 @@ fn from_checked(s: Settings) -> Board
     let clock = Clock {
         crossings: 0,
         next: 0,
-        orbit: 0,
+        orbits: 0,
         errors: 0,
     };
     let turn = Turn::fresh(&slots);
-    let ptc = fresh_ptc();
+    let ptc = Ptc::fresh();
     Board {
         settings: s,
         clock: clock,
@@ -165,15 +151,9 @@ fn clock_after(clock: Clock, orbit: u32, marker: bool, bytes: [u8; 8]) -> Clock
     Clock {
         crossings: t.crossings,
         next: t.next,
-        orbit: orbit_count(bytes[0], t.orbit),
+        orbits: orbit_count(bytes[0], t.orbits),
         errors: t.errors,
     }
-}
-
-fn mark_of(carried: bool) -> u64
-    ensures { λ r. ⌜ r ≡ one carried ⌝ }
-{
-    if carried { 1 } else { 0 }
 }
 
 impl Board {
@@ -220,7 +200,7 @@ impl Board {
         bytes: &mut [u8],
         shown: &mut [u8],
     ) -> Board
-        requires { ⌜ (soundEight (self .turn .holder) (self .clock .crossings) (self .ptcs) ≡ true) × (self .clock .crossings < MOST) × (length (now bytes) ≡ 8) × (length (now shown) ≡ 8) ⌝ }
+        requires { ⌜ (soundEight (self .turn .holder) (self .clock .crossings) (self .ptcs) ≡ true) × (self .clock .crossings < LIFETIME) × (length (now bytes) ≡ 8) × (length (now shown) ≡ 8) ⌝ }
         ensures { λ r. ⌜ (r ≡ withPtcs self (mapI (ptcOf plan scene classes requests) 0 (self .ptcs))) × (now (bytes .exit) ≡ mapI (byteOf plan scene classes requests) 0 (self .ptcs)) × (now (shown .exit) ≡ mapI (shownOf plan scene classes requests) 0 (self .ptcs)) ⌝ }
     {
         let mut k = 0;
@@ -244,11 +224,11 @@ impl Board {
 
     // The board with the next clock and turn, and with this crossing's mark.
     fn passed_on(mut self, clock: Clock, turn: Turn, carried: bool) -> Board
-        requires { ⌜ self .clock .crossings < MOST ⌝ }
+        requires { ⌜ self .clock .crossings < LIFETIME ⌝ }
         ensures { λ r. ⌜ r ≡ passedOn self clock turn carried ⌝ }
     {
         let n = self.clock.crossings;
-        throttle::pass(&mut self.marks, n, mark_of(carried));
+        throttle::pass(&mut self.marks, n, plain::one(carried));
         self.clock = clock;
         self.turn = turn;
         self
@@ -256,7 +236,7 @@ impl Board {
 
     // Number, merge, moves, cycles and triggers, marks, the row: document 01's order.
     fn crossing(self, kit: Kit, classes: [u8; 8], rec: &[u8], rows: &mut [u8]) -> Board
-        requires { ⌜ (soundBoard self ≡ true) × (kit ≡ kitOf (self .settings)) × (classes ≡ classesOf (self .settings) (codesIn (now rec))) × (length (now rec) ≡ 24) × (well (now rec) ≡ true) × (isCrossing (now rec) ≡ true) × (self .clock .crossings < MOST) × (12 ≤ length (now rows)) ⌝ }
+        requires { ⌜ (soundBoard self ≡ true) × (kit ≡ kitOf (self .settings)) × (classes ≡ classesOf (self .settings) (codesIn (now rec))) × (length (now rec) ≡ 24) × (well (now rec) ≡ true) × (isCrossing (now rec) ≡ true) × (self .clock .crossings < LIFETIME) × (12 ≤ length (now rows)) ⌝ }
         ensures { λ r. ⌜ (r ≡ boardCrossed self (now (rec .entry))) × (now (rows .exit) ≡ rowCrossed self (now (rec .entry)) ++ drop 12 (now (rows .entry))) ⌝ }
     {
         let marker = rec[1] == 1;
@@ -286,7 +266,7 @@ impl Board {
     }
 
     fn step(self, kit: Kit, classes: [u8; 8], rec: &[u8], rows: &mut [u8]) -> Board
-        requires { ⌜ (soundBoard self ≡ true) × (kit ≡ kitOf (self .settings)) × (classes ≡ classesOf (self .settings) (codesIn (now rec))) × (length (now rec) ≡ 24) × (well (now rec) ≡ true) × (isCrossing (now rec) ≡ true → self .clock .crossings < MOST) × (12 ≤ length (now rows)) ⌝ }
+        requires { ⌜ (soundBoard self ≡ true) × (kit ≡ kitOf (self .settings)) × (classes ≡ classesOf (self .settings) (codesIn (now rec))) × (length (now rec) ≡ 24) × (well (now rec) ≡ true) × (isCrossing (now rec) ≡ true → self .clock .crossings < LIFETIME) × (12 ≤ length (now rows)) ⌝ }
         ensures { λ r. ⌜ (r ≡ stepped self (now (rec .entry))) × (now (rows .exit) ≡ rowOf self (now (rec .entry)) ++ drop 12 (now (rows .entry))) ⌝ }
     {
         if rec[0] == 0 {
@@ -298,7 +278,7 @@ impl Board {
     // n records that are not refused, each answered by a row where the last row ended. While all eight are at rest, a plain
     // crossing is done here: handing the board on by value would cost more than the crossing.
     fn run(mut self, log: &[u8], n: usize, rows: &mut [u8]) -> Board
-        requires { ⌜ (soundBoard self ≡ true) × (length (now log) ≡ 24 * n) × (12 * n ≤ length (now rows)) × (firstIll n (now log) ≡ n) × (self .clock .crossings + crossingsIn n (now log) ≤ MOST) ⌝ }
+        requires { ⌜ (soundBoard self ≡ true) × (length (now log) ≡ 24 * n) × (12 * n ≤ length (now rows)) × (firstIll n (now log) ≡ n) × (self .clock .crossings + crossingsIn n (now log) ≤ LIFETIME) ⌝ }
         ensures { λ r. ⌜ (r ≡ ran n self (now (log .entry))) × (now (rows .exit) ≡ rowsOf n self (now (log .entry)) ++ drop (12 * n) (now (rows .entry))) ⌝ }
     {
         let kit = Kit::of(self.settings);
@@ -321,7 +301,7 @@ impl Board {
                 let o = p.rested(kit.plan, scene, holder, asked);
                 let q = o.ptc;
                 self.ptcs[h] = q;
-                throttle::pass(&mut self.marks, done, mark_of(o.sent));
+                throttle::pass(&mut self.marks, done, plain::one(o.sent));
                 self.clock = clock.ticked(kit.orbit, false);
                 still::put_still(&mut rows[ROW * i..], row, h, o.sent);
                 i += 1;

@@ -32,7 +32,7 @@ impl Board {
         if !a.is_done() {
             return false;
         }
-        if !self.clock.is_sound(records::LIFE, s.orbit()) {
+        if !self.clock.is_sound(records::LIFETIME, s.orbit()) {
             return false;
         }
         let slots = slots_of(s);

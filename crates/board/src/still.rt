@@ -13,10 +13,10 @@ ghost use lib.Dec.{ltb};
 ghost use lib.ListN.{length, set, drop, replicate};
 ghost use Rattle.laws.specs.Base.{if};
 ghost use Rattle.status.specs.Codes.{Coded};
-ghost use Rattle.status.specs.Merger.{voted};
+ghost use Rattle.status.specs.support.Merger.{voted};
 ghost use Rattle.throttle.specs.Rules.{Sensible, free};
 ghost use Rattle.records.specs.Records.{recAt, codesIn, sameCodes};
-ghost use Rattle.board.specs.Still.{calmUnder, stillRow, plainNumber, plainRecord, plainCrossing};
+ghost use Rattle.board.specs.support.Still.{calmUnder, stillRow, plainNumber, plainRecord, plainCrossing};
 
 fn is_plain_number(at: Schedule, number: u32) -> bool
     ensures { λ r. ⌜ r ≡ plainNumber at number ⌝ }
@@ -46,7 +46,14 @@ fn is_plain_record(holder: u32, rec: &[u8]) -> bool
 }
 
 // Whether record i is a plain crossing of a calm board, with the codes of the record before it.
-pub fn is_still(calm: bool, at: Schedule, number: u32, holder: u32, log: &[u8], i: usize) -> bool
+pub(crate) fn is_still(
+    calm: bool,
+    at: Schedule,
+    number: u32,
+    holder: u32,
+    log: &[u8],
+    i: usize,
+) -> bool
     requires { ⌜ (calm ≡ true → 0 < i) × (24 * i + 24 ≤ length (now log)) ⌝ }
     ensures { λ r. ⌜ r ≡ (calm && (plainCrossing at number holder (recAt (now (log .entry)) i) && sameCodes 21 (recAt (now (log .entry)) i) (recAt (now (log .entry)) (i - 1)))) ⌝ }
 {
@@ -66,7 +73,7 @@ pub fn is_still(calm: bool, at: Schedule, number: u32, holder: u32, log: &[u8], 
 }
 
 // The rules are looked at only where a trigger is asked for.
-pub fn free_if(
+pub(crate) fn free_if(
     asked: bool,
     marks: &[u64; 32],
     rules: Rules,
@@ -84,7 +91,7 @@ pub fn free_if(
 }
 
 // What the holder alone sees, by the limits of its own state.
-pub fn lone_scene(number: u32, holder: u32, free: bool) -> Scene
+pub(crate) fn lone_scene(number: u32, holder: u32, free: bool) -> Scene
     ensures { λ r. ⌜ r ≡ record { number = number; holder = holder; norm = free; low = free } ⌝ }
 {
     Scene {
@@ -96,7 +103,7 @@ pub fn lone_scene(number: u32, holder: u32, free: bool) -> Scene
 }
 
 // The row of a still crossing, with the holder's trigger if one was sent.
-pub fn put_still(rows: &mut [u8], row: [u8; 12], h: usize, sent: bool)
+pub(crate) fn put_still(rows: &mut [u8], row: [u8; 12], h: usize, sent: bool)
     requires { ⌜ (12 ≤ length (now rows)) × (h < 8) ⌝ }
     ensures { λ _. ⌜ now (rows .exit) ≡ if sent (set row h 16) row ++ drop 12 (now (rows .entry)) ⌝ }
 {
@@ -110,7 +117,7 @@ pub fn put_still(rows: &mut [u8], row: [u8; 12], h: usize, sent: bool)
 }
 
 // The classes of record i: those of the record before it, where it has the same codes.
-pub fn classes_at(merger: Merger, before: [u8; 8], log: &[u8], i: usize) -> [u8; 8]
+pub(crate) fn classes_at(merger: Merger, before: [u8; 8], log: &[u8], i: usize) -> [u8; 8]
     requires { ⌜ (24 * i + 24 ≤ length (now log)) × (Coded (codesIn (recAt (now log) i))) × (0 < i → before ≡ voted merger (codesIn (recAt (now log) (i - 1))) 40) ⌝ }
     ensures { λ r. ⌜ r ≡ voted merger (codesIn (recAt (now (log .entry)) i)) 40 ⌝ }
 {
@@ -121,7 +128,7 @@ pub fn classes_at(merger: Merger, before: [u8; 8], log: &[u8], i: usize) -> [u8;
 }
 
 // Whether a record i comes, with the codes of the record before it.
-pub fn is_followed(log: &[u8], i: usize, n: usize) -> bool
+pub(crate) fn is_followed(log: &[u8], i: usize, n: usize) -> bool
     requires { ⌜ (0 < i) × (length (now log) ≡ 24 * n) × (i ≤ n) ⌝ }
     ensures { λ r. ⌜ r ≡ (ltb i n && sameCodes 21 (recAt (now (log .entry)) i) (recAt (now (log .entry)) (i - 1))) ⌝ }
 {
@@ -133,7 +140,7 @@ pub fn is_followed(log: &[u8], i: usize, n: usize) -> bool
 
 impl Board {
     // Worth a look only where the next record has the same codes.
-    pub fn is_calm(self, classes: [u8; 8], followed: bool) -> bool
+    pub(crate) fn is_calm(self, classes: [u8; 8], followed: bool) -> bool
         ensures { λ r. ⌜ r ≡ (followed && calmUnder classes (self .ptcs)) ⌝ }
     {
         if !followed {
@@ -150,7 +157,7 @@ impl Board {
         true
     }
 
-    pub fn still_row(self, calm: bool) -> [u8; 12]
+    pub(crate) fn still_row(self, calm: bool) -> [u8; 12]
         ensures { λ r. ⌜ r ≡ if calm (stillRow (self .ptcs)) (replicate 12 0) ⌝ }
     {
         if !calm {

@@ -9,7 +9,7 @@ use ptc::Ptc;
 use settings::Settings;
 ghost use Prim.Native.Nat.{_<_};
 
-pub fn byte(n: u64) -> u8 {
+pub(crate) fn byte(n: u64) -> u8 {
     (n % 256) as u8
 }
 
@@ -21,7 +21,7 @@ fn pick(f: u64, this: u64, new: u64, old: u64) -> u64 {
     if f == this { new } else { old }
 }
 
-pub fn set_setting(mut board: Board, i: usize, value: u64) -> Board
+pub(crate) fn set_setting(mut board: Board, i: usize, value: u64) -> Board
     requires { ⌜ i < 71 ⌝ }
 {
     let mut s = board.settings;
@@ -31,13 +31,13 @@ pub fn set_setting(mut board: Board, i: usize, value: u64) -> Board
 }
 
 // By field: crossings, next, orbit, errors, holder, left.
-pub fn set_clock(mut board: Board, f: u64, value: u64) -> Board {
+pub(crate) fn set_clock(mut board: Board, f: u64, value: u64) -> Board {
     let c = board.clock;
     let t = board.turn;
     let clock = Clock {
         crossings: pick(f, 0, value, c.crossings),
         next: small(pick(f, 1, value, c.next as u64)),
-        orbit: pick(f, 2, value, c.orbit),
+        orbits: pick(f, 2, value, c.orbits),
         errors: pick(f, 3, value, c.errors),
     };
     let turn = Turn {
@@ -83,7 +83,7 @@ fn set_value(p: Ptc, f: u64, value: u64) -> Ptc {
     }
 }
 
-pub fn set_ptc(mut board: Board, k: usize, f: u64, value: u64) -> Board
+pub(crate) fn set_ptc(mut board: Board, k: usize, f: u64, value: u64) -> Board
     requires { ⌜ k < 8 ⌝ }
 {
     let p = board.ptcs[k];
@@ -92,7 +92,7 @@ pub fn set_ptc(mut board: Board, k: usize, f: u64, value: u64) -> Board
     board
 }
 
-pub fn set_mark(mut board: Board, i: usize, value: u64) -> Board
+pub(crate) fn set_mark(mut board: Board, i: usize, value: u64) -> Board
     requires { ⌜ i < 32 ⌝ }
 {
     board.marks[i] = value;
@@ -123,7 +123,7 @@ fn is_same_ptc(a: Ptc, b: Ptc) -> bool {
 fn is_same_clock(a: Clock, b: Clock) -> bool {
     (a.crossings == b.crossings)
         & (a.next == b.next)
-        & (a.orbit == b.orbit)
+        & (a.orbits == b.orbits)
         & (a.errors == b.errors)
 }
 
@@ -149,7 +149,7 @@ fn are_same_marks(a: [u64; 32], b: [u64; 32]) -> bool {
     same
 }
 
-pub fn are_same_settings(a: Settings, b: Settings) -> bool {
+pub(crate) fn are_same_settings(a: Settings, b: Settings) -> bool {
     let mut same = true;
     let mut k = 0;
     while k < 71 {
@@ -159,7 +159,7 @@ pub fn are_same_settings(a: Settings, b: Settings) -> bool {
     same
 }
 
-pub fn is_same(a: Board, b: Board) -> bool {
+pub(crate) fn is_same(a: Board, b: Board) -> bool {
     let p = a.ptcs;
     let q = b.ptcs;
     let m = a.marks;

@@ -16,14 +16,14 @@ use Rattle.clock.specs.declared.Clock.{Clock}
 use Rattle.clock.specs.declared.Turn.{Turn}
 use Rattle.clock.specs.Clock.{numberOf, orbitEnds, nextOf, tickedOf, soundClock}
 use Rattle.clock.specs.Turn.{nextFrom, takesOver, fallenOf, turnedOf, freshTurn, held, soundTurn}
-use Rattle.clock.specs.Room.{ClockRoom}
+use Rattle.clock.specs.support.Room.{ClockRoom}
 use Rattle.clock.proofs.Found.{Has, None, finds}
 
 -- the parts of the clock's test
 record Runs (most orbit : ℕ) (c : Clock) : Type 0 where
   crossings : c .crossings ≤ most
   next : c .next < orbit
-  orbits : c .orbit ≤ c .crossings
+  orbits : c .orbits ≤ c .crossings
   errors : c .errors ≤ c .crossings
 
 read : (most orbit : ℕ) (c : Clock) → soundClock most orbit c ≡ true → Runs most orbit c
@@ -31,7 +31,7 @@ unfolding soundClock
 read most orbit c e =
     let x = both (leb (c .crossings) most) _ e in
     let y = both (ltb (c .next) orbit) _ (x .1) in
-    let z = both (leb (c .orbit) (c .crossings)) _ (y .1) in
+    let z = both (leb (c .orbits) (c .crossings)) _ (y .1) in
     record { crossings = leb-true _ _ (x .0); next = ltb-true _ _ (y .0); orbits = leb-true _ _ (z .0); errors = leb-true _ _ (z .1) }
 
 make : (most orbit : ℕ) (c : Clock) → Runs most orbit c → soundClock most orbit c ≡ true

@@ -16,6 +16,6 @@ number-le c false = omega arith
 pub ticked-is : (per : ℕ) (c : Clock) (marker : Bool) {number next ended missed : ℕ} {last wrong : Bool}
     → number ≡ numberOf c marker → last ≡ orbitEnds c marker → next ≡ nextOf per number → ended ≡ one last
     → wrong ≡ (marker && not (eqb (c .next) 0)) → missed ≡ one wrong
-    → _≡_ {A = Clock} (record { crossings = c .crossings + 1; next = next; orbit = c .orbit + ended; errors = c .errors + missed }) (tickedOf per c marker)
+    → _≡_ {A = Clock} (record { crossings = c .crossings + 1; next = next; orbits = c .orbits + ended; errors = c .errors + missed }) (tickedOf per c marker)
 unfolding tickedOf
 ticked-is per c marker numbers lasts nexts adds errs counts = rw (counts, errs, adds, nexts, lasts, numbers)

@@ -14,22 +14,22 @@ abbrev pub orbitEnds : Clock → Bool → Bool
 orbitEnds c marker = eqb (numberOf c marker) 0 && ltb 0 (c .crossings)
 
 -- after orbit - 1 comes 0
-abbrev pub nextOf : ℕ → ℕ → ℕ
+abbrev pub nextOf : (orbit number : ℕ) → ℕ
 nextOf orbit number = if (ltb (number + 1) orbit) (number + 1) 0
 
 -- if the marker came where another was expected, bc_errors grows by 1; at a number 0 the orbit count grows
-unfoldable pub tickedOf : ℕ → Clock → Bool → Clock
+unfoldable pub tickedOf : (orbit : ℕ) (c : Clock) (marker : Bool) → Clock
 tickedOf orbit c marker = record {
   crossings = c .crossings + 1;
   next = nextOf orbit (numberOf c marker);
-  orbit = c .orbit + one (orbitEnds c marker);
+  orbits = c .orbits + one (orbitEnds c marker);
   errors = c .errors + one (marker && not (eqb (c .next) 0));
 }
 
 -- a fresh board expects 0
 abbrev pub freshClock : Clock
-freshClock = record { crossings = 0; next = 0; orbit = 0; errors = 0 }
+freshClock = record { crossings = 0; next = 0; orbits = 0; errors = 0 }
 
 -- crossings done ≤ most; next number below orbit; both counts ≤ crossings done
-unfoldable pub soundClock : ℕ → ℕ → Clock → Bool
-soundClock most orbit c = leb (c .crossings) most && (ltb (c .next) orbit && (leb (c .orbit) (c .crossings) && leb (c .errors) (c .crossings)))
+unfoldable pub soundClock : (most orbit : ℕ) (c : Clock) → Bool
+soundClock most orbit c = leb (c .crossings) most && (ltb (c .next) orbit && (leb (c .orbits) (c .crossings) && leb (c .errors) (c .crossings)))

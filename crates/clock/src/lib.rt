@@ -4,16 +4,16 @@ ghost use mathlib.Core.Bool.{not, _&&_};
 ghost use Prim.Native.Nat.{_+_, _<_, _≤_, _^_};
 ghost use lib.Dec.{eqb};
 ghost use lib.ListN.{getD};
-ghost use Rattle.laws.specs.Base.{allB, one};
+ghost use Rattle.laws.specs.Base.{allB};
 ghost use Rattle.clock.specs.Clock.{numberOf, orbitEnds, nextOf, tickedOf, soundClock};
 ghost use Rattle.clock.specs.Turn.{nextFrom, takesOver, fallenOf, turnedOf, freshTurn, held, soundTurn};
-ghost use Rattle.clock.specs.Room.{ClockRoom, SlotRoom};
+ghost use Rattle.clock.specs.support.Room.{ClockRoom, SlotRoom};
 
 pub struct Clock {
     pub crossings: u64,
     // The number that the next crossing has where no marker comes.
     pub next: u32,
-    pub orbit: u64,
+    pub orbits: u64,
     pub errors: u64,
 }
 
@@ -21,12 +21,6 @@ pub struct Clock {
 pub struct Turn {
     pub holder: u32,
     pub left: u32,
-}
-
-fn one_if(t: bool) -> u64
-    ensures { λ r. ⌜ r ≡ one t ⌝ }
-{
-    if t { 1 } else { 0 }
 }
 
 fn next_number(orbit: u32, number: u32) -> u32
@@ -66,8 +60,8 @@ impl Clock {
         Clock {
             crossings: self.crossings + 1,
             next: next_number(orbit, number),
-            orbit: self.orbit + one_if(ends),
-            errors: self.errors + one_if(is_error(marker, self.next)),
+            orbits: self.orbits + plain::one(ends),
+            errors: self.errors + plain::one(is_error(marker, self.next)),
         }
     }
 
@@ -80,7 +74,7 @@ impl Clock {
         if orbit <= self.next {
             return false;
         }
-        if self.crossings < self.orbit {
+        if self.crossings < self.orbits {
             return false;
         }
         self.errors <= self.crossings

@@ -10,7 +10,7 @@ use lib.Seq.{take-at, drop-at}
 use Rattle.laws.specs.Base.{if}
 use Rattle.answer.specs.Told.{Told, succeeded, DONE, BOARD, LENGTH, ROOM, RECORD, LIFE}
 use Rattle.records.specs.Records.{firstIll, crossingsIn}
-use Rattle.records.specs.Refusal.{MOST, recordsIn, refusalOf, Ready}
+use Rattle.records.specs.Refusal.{LIFETIME, recordsIn, refusalOf, Ready}
 use Rattle.board.specs.declared.Board.{Board}
 use Rattle.board.specs.Run.{rowsOf}
 use Rattle.board.specs.Sound.{soundBoard}
@@ -41,7 +41,7 @@ accepted b log room =
     (settles (eqb (length log % 24) 0) _ LENGTH refl
     (settles (leb (12 * n) room) _ (ROOM (12 * n)) refl
     (settles (eqb (firstIll n log) n) _ (RECORD (firstIll n log)) refl
-    (settles (leb (b .clock .crossings + crossingsIn n log) MOST) _ LIFE refl (λ d. refl)))))
+    (settles (leb (b .clock .crossings + crossingsIn n log) LIFETIME) _ LIFE refl (λ d. refl)))))
 
 -- what stands in the buffer: the rows, then the bytes that were there
 pub rows-taken : (n : ℕ) (b : Board) (log later : List ℕ) → length (b .ptcs) ≡ 8 → take (12 * n) (rowsOf n b log ++ later) ≡ rowsOf n b log

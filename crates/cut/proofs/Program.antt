@@ -4,7 +4,7 @@ use mathlib.Core.Path.{_≡_, refl, ap, sym, _∙_}
 use mathlib.Core.Bool.{true, false, false≢true}
 use mathlib.Core.List.{List, _++_, append-assoc}
 use Prim.Native.Nat.{ℕ, zero, suc, _+_, _*_, _-_, _%_, _≤_, _<_}
-use native.Mathlib.Nat.{zero-add, suc-add, not-suc-le-zero}
+use native.Mathlib.Nat.{not-suc-le-zero}
 use native.Mathlib.Omega.{arith}
 use lib.ListN.{length, take, drop, length-append, length-drop, take-append-drop}
 use lib.Seq.{length-take-le, take-all, drop-drop, take-add}
@@ -20,6 +20,7 @@ use Rattle.board.proofs.Answers.{block-ready, block-answer, block-done}
 use Rattle.board.proofs.Keeps.{Fit, ran-fit}
 use Rattle.board.proofs.Settled.{sound-parts, within-life}
 use Rattle.replay.specs.Replay.{blocksIn, blockAt, laidOn, inBlocks}
+use Rattle.replay.proofs.Laws.{stays}
 use Rattle.cut.proofs.Accepted.{fit-of, accepts, accepted, rows-taken, rows-past}
 use Rattle.cut.proofs.Parts.{records-add, ran-parts, rows-parts, first-ready, rest-ready, both-ready}
 use Rattle.cut.specs.Blocks.{Whole}
@@ -152,12 +153,6 @@ ends b log rows n so done stopped =
     let o = first n b log rows in
     rw (so, done, refused-block (o .board) (blockAt log n) (drop (768 * n) (o .rows)) stopped, take-append-drop)
 
--- after a refusal no block is run
-stays : (n m : ℕ) (b : Board) (log rows : List ℕ) → succeeded (inBlocks n b log rows .answer) ≡ false → inBlocks (m + n) b log rows ≡ inBlocks n b log rows
-unfolding inBlocks
-stays n zero b log rows e = rw zero-add
-stays n (suc m) b log rows e = rw (suc-add, stays n m b log rows e, e)
-
 pub program : Program
 program = record { same = same; only = only; refused = refused }
   where
@@ -184,4 +179,4 @@ program = record { same = same; only = only; refused = refused }
         let here = ends b log rows n so done stopped in
         let left = blocksIn log - suc n in
         let all : blocksIn log ≡ left + suc n = omega arith in
-        ap (λ (k : ℕ). inBlocks k b log rows) all ∙ stays (suc n) left b log rows (rw here stopped) ∙ here
+        ap (λ (k : ℕ). inBlocks k b log rows) all ∙ stays b log rows left (suc n) (rw here stopped) ∙ here

@@ -19,7 +19,7 @@ use Rattle.states.specs.Names.{READY, WARN}
 use Rattle.ptc.specs.declared.counts.Counts.{Counts}
 use Rattle.ptc.specs.Counts.{noCounts}
 use Rattle.board.specs.declared.Board.{Board}
-use Rattle.board.specs.Command.{freshPtc}
+use Rattle.ptc.specs.Fresh.{freshPtc}
 use Rattle.runup.specs.Crossings.{crossingWith, tells, later, started}
 
 -- standard settings, a request in each of the next crossings, in WARN where warn tells, by how many were before, and else in READY.
@@ -47,7 +47,7 @@ allOf c = c ∷ replicate 20 (c + 16 * c)
 abbrev pub boardAt : ℕ → ℕ → Board
 boardAt number state = record {
   settings = standard;
-  clock = record { crossings = number; next = number; orbit = 0; errors = 0 };
+  clock = record { crossings = number; next = number; orbits = 0; errors = 0 };
   turn = record { holder = 0; left = 2550 };
   ptcs = record { state = state; wait = 0; cycle = 0; counts = noCounts; events = 0 } ∷ replicate 7 freshPtc;
   marks = replicate 32 0;
@@ -79,7 +79,7 @@ twoInGap = record {
 
 -- after five crossings
 abbrev pub expectsFive : Clock
-expectsFive = record { crossings = 5; next = 5; orbit = 0; errors = 0 }
+expectsFive = record { crossings = 5; next = 5; orbits = 0; errors = 0 }
 
 -- "sent at t + n" is n in a list; by rows its byte follows, 16 being a request sent as trigger and what is below it a command code
 pub record Figures : Type 0 where

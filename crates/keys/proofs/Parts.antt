@@ -5,19 +5,19 @@ use mathlib.Core.List.{[]}
 use Prim.Native.Nat.{ℕ, _+_, _<_}
 use native.Mathlib.Omega.{arith}
 use lib.ListN.{length}
-use Rattle.text.specs.Lines.{head}
+use Rattle.text.specs.Lines.{lineHead}
 use Rattle.keys.specs.declared.Span.{Span}
 use Rattle.keys.specs.Keys.{keys, keyAt, keyCount, keyBytes}
-use Rattle.keys.specs.Places.{heads, startOf}
-use Rattle.keys.specs.Spans.{SpanIs}
+use Rattle.keys.specs.support.Places.{lineHeads, startOf}
+use Rattle.keys.specs.support.Spans.{SpanIs}
 use Rattle.keys.proofs.Places.{start-next, start-within, key-part}
 
 pub key-count : length keys ≡ keyCount
 unfolding keys
 key-count = refl
 
-pub key-bytes : length (heads keys) ≡ keyBytes
-unfolding keys head
+pub key-bytes : length (lineHeads keys) ≡ keyBytes
+unfolding keys lineHead
 key-bytes = refl
 
 pub span-is : (n : ℕ) (s : Span) → n < keyCount → s .start ≡ startOf keys n → s .end ≡ startOf keys (n + 1) → SpanIs n s

@@ -7,7 +7,7 @@ use native.Mathlib.Omega.{arith}
 use lib.ListN.{length, drop, getD, length-drop, List·getD-append}
 use lib.Seq.{getD-drop}
 use Rattle.text.specs.Bytes.{put}
-use Rattle.text.specs.Lines.{keysOf, head, row, linesText}
+use Rattle.text.specs.Lines.{keysOf, lineHead, lineText, linesText}
 use Rattle.text.proofs.Walk.{length-more, put-more, text-end, text-within}
 use Rattle.keys.specs.Settings.{table}
 use Rattle.keys.specs.Report.{commonKeys, blockKeys}
@@ -29,11 +29,11 @@ module _ (first : ℕ) (vs : List ℕ) (n : ℕ) (fits : first + length vs ≤ k
   unfolding keyAt
   key-is = rw place (getD-drop first keys n [])
 
-  pub longer : length (Left first vs n) ≡ length (row (head (keyAt k)) v) + length (Left first vs (n + 1))
+  pub longer : length (Left first vs n) ≡ length (lineText (lineHead (keyAt k)) v) + length (Left first vs (n + 1))
   longer = rw (is, ← key-is) (length-more (drop first keys) vs n [] inside more)
 
-  pub laid-on : (o : List ℕ) (at : ℕ) → at + length (row (head (keyAt k)) v) ≤ length o
-      → put o at (Left first vs n) ≡ put (put o at (row (head (keyAt k)) v)) (at + length (row (head (keyAt k)) v)) (Left first vs (n + 1))
+  pub laid-on : (o : List ℕ) (at : ℕ) → at + length (lineText (lineHead (keyAt k)) v) ≤ length o
+      → put o at (Left first vs n) ≡ put (put o at (lineText (lineHead (keyAt k)) v)) (at + length (lineText (lineHead (keyAt k)) v)) (Left first vs (n + 1))
   laid-on o at = rw (is, ← key-is) (put-more (drop first keys) vs n [] inside more o at)
 
 pub left-none : (first : ℕ) (vs : List ℕ) (n : ℕ) → length vs ≤ n → Left first vs n ≡ []

@@ -1,5 +1,4 @@
 pub mod Settings
 pub mod Report
 pub mod Keys
-pub mod Places
-pub mod Spans
+pub mod support

@@ -11,7 +11,7 @@ pub record Setting : Type 0 where
   pub standard : ℕ
 
 -- a line whose value has one to five digits
-abbrev pub keyed : List ℕ → ℕ → ℕ → ℕ → Setting
+abbrev pub keyed : (key : List ℕ) (low high standard : ℕ) → Setting
 keyed key low high standard = record { line = record { key = key; range = record { low = low; high = high; digits = 5 } }; standard = standard }
 
 unfoldable pub setting : String → ℕ → ℕ → ℕ → Setting

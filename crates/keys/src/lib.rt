@@ -3,11 +3,11 @@ ghost use mathlib.Core.Path.{_≡_};
 ghost use Prim.Native.Nat.{_+_, _*_, _<_, _≤_};
 ghost use lib.ListN.{length, drop};
 ghost use Rattle.text.specs.Bytes.{put};
-ghost use Rattle.text.specs.Lines.{head, row, linesText};
-ghost use Rattle.text.specs.Seen.{LineIs};
+ghost use Rattle.text.specs.Lines.{lineHead, lineText, linesText};
+ghost use Rattle.text.specs.support.Seen.{LineIs};
 ghost use Rattle.keys.specs.Keys.{keys, keyAt, keyCount, lineMost};
-ghost use Rattle.keys.specs.Places.{startOf};
-ghost use Rattle.keys.specs.Spans.{SpanIs};
+ghost use Rattle.keys.specs.support.Places.{startOf};
+ghost use Rattle.keys.specs.support.Spans.{SpanIs};
 
 const KEYS: [u8; 697] = *b"orbit=gap_low=gap_high=\
     r1_gap=r2_period=r2_norm=r2_low=r3_period=r3_norm=r3_low=r4_period=r4_norm=r4_low=\
@@ -141,7 +141,7 @@ fn span_of(n: usize) -> Span
 // Reads the line of key n at a place of the text.
 pub fn read_line(text: &[u8], at: usize, n: usize, range: text::Range) -> text::Line
     requires { ⌜ (n < keyCount) × (at ≤ length (now text)) × (0 < range .digits) × (range .digits ≤ 8) ⌝ }
-    ensures { λ r. ⌜ LineIs (now (text .entry)) at (head (keyAt n)) range r ⌝ }
+    ensures { λ r. ⌜ LineIs (now (text .entry)) at (lineHead (keyAt n)) range r ⌝ }
 {
     let key = span_of(n);
     let a = key.start;
@@ -151,8 +151,8 @@ pub fn read_line(text: &[u8], at: usize, n: usize, range: text::Range) -> text::
 
 // Lays the line of key n into the buffer, and answers the place after it.
 pub fn put_line(out: &mut [u8], at: usize, n: usize, v: u64) -> usize
-    requires { ⌜ (n < keyCount) × (at + length (row (head (keyAt n)) v) ≤ length (now out)) ⌝ }
-    ensures { λ r. ⌜ (r ≡ at + length (row (head (keyAt n)) v)) × (now (out .exit) ≡ put (now (out .entry)) at (row (head (keyAt n)) v)) ⌝ }
+    requires { ⌜ (n < keyCount) × (at + length (lineText (lineHead (keyAt n)) v) ≤ length (now out)) ⌝ }
+    ensures { λ r. ⌜ (r ≡ at + length (lineText (lineHead (keyAt n)) v)) × (now (out .exit) ≡ put (now (out .entry)) at (lineText (lineHead (keyAt n)) v)) ⌝ }
 {
     let key = span_of(n);
     let a = key.start;
@@ -163,7 +163,7 @@ pub fn put_line(out: &mut [u8], at: usize, n: usize, v: u64) -> usize
 // How long that line is.
 pub fn line_length(n: usize, v: u64) -> usize
     requires { ⌜ n < keyCount ⌝ }
-    ensures { λ r. ⌜ (r ≡ length (row (head (keyAt n)) v)) × (r ≤ lineMost) ⌝ }
+    ensures { λ r. ⌜ (r ≡ length (lineText (lineHead (keyAt n)) v)) × (r ≤ lineMost) ⌝ }
 {
     let key = span_of(n);
     key.end - key.start + text::width(v) + 1

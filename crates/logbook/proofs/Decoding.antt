@@ -8,7 +8,6 @@ use native.Mathlib.Omega.{arith}
 use borrow.Author.Tests.{eq-eqb, ne-eqb}
 use lib.Dec.{eqb}
 use lib.ListN.{length, getD, List·getD-append}
-use Rattle.laws.specs.Base.{one}
 use Rattle.records.specs.Rows.{rowByte, packed, crossingRow, commandRow}
 use Rattle.records.proofs.Laws.{row-made}
 use Rattle.logbook.specs.Row.{statusIn, takenIn}

@@ -26,7 +26,7 @@ use Rattle.records.proofs.Laws.{byte-code, byte-fires}
 use Rattle.board.specs.declared.Board.{Board}
 use Rattle.board.specs.Kit.{planOf}
 use Rattle.board.specs.Crossing.{sceneOf, actOf, byteOf, shownOf, eight, boardCrossed, rowCrossed}
-use Rattle.board.specs.Command.{freshPtc}
+use Rattle.ptc.specs.Fresh.{freshPtc}
 use Rattle.board.specs.Run.{stepped, rowOf, ran}
 use Rattle.board.specs.Fresh.{freshBoard}
 use Rattle.logbook.specs.Row.{rowAt, codeIn, sentIn, calIn, sendsIn, statusIn, runsIn, warnsIn}

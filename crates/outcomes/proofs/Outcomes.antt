@@ -1,21 +1,14 @@
 -- One input, one outcome: two outcomes that meet a contract are seen as the same, and what is seen of an outcome determines it.
--- An answer is determined by what it tells, a place within a text by what follows it.
-use mathlib.Core.Path.{_≡_, refl, sym, ap, ap₂, _∙_}
+-- An answer is determined by what it tells; a line that was read, by what is said of it (`line-known`).
+use mathlib.Core.Path.{_≡_, sym, ap, ap₂, _∙_}
 use mathlib.Core.List.{List}
-use Prim.Native.Nat.{ℕ, _≤_}
-use native.Mathlib.Omega.{arith}
-use lib.ListN.{length, drop, length-drop}
+use Prim.Native.Nat.{ℕ}
 use Rattle.answer.specs.declared.Answer.{Answer}
 use Rattle.answer.specs.Told.{Told, told}
 use Rattle.answer.proofs.Told.{told-one}
-use Rattle.text.specs.declared.Number.{Number}
-use Rattle.text.specs.declared.Number.the-variants as number-is
-use Rattle.text.specs.declared.Line.{Line}
-use Rattle.text.specs.declared.Line.the-variants as line-is
-use Rattle.text.specs.declared.Range.{Range}
-use Rattle.text.specs.Seen.{seen, Within, NumberIs, lineSeen, LineWithin, LineIs}
+use Rattle.text.proofs.Known.{line-known}
 use Rattle.settings.specs.declared.Settings.{Settings}
-use Rattle.settings.specs.declared.Reading.{Reading}
+use Rattle.settings.specs.declared.Read.{Read}
 use Rattle.settings.specs.Read.{ReadOut, readOut}
 use Rattle.settings.specs.Write.{WriteOut, writeOut}
 use Rattle.board.specs.declared.Board.{Board}
@@ -49,7 +42,7 @@ told-known d a b p q = told-one a b (p ∙ sym q)
 beside : {X Out : Type 0} (make : Answer → X → Out) (a b : Answer) (x y : X) → _≡_ {A = Told × X} (told a, x) (told b, y) → make a x ≡ make b y
 beside {X} make a b x y e = ap₂ make (told-one a b (ap (λ (o : Told × X). o .0) e)) (ap (λ (o : Told × X). o .1) e)
 
-one-reading : (d : ReadOut) → One (λ (r : Reading). readOut r ≡ d)
+one-reading : (d : ReadOut) → One (λ (r : Read). readOut r ≡ d)
 one-reading d a b p q =
     beside (λ (z : Answer) (s : Settings). record { answer = z; settings = s }) (a .answer) (b .answer) (a .settings) (b .settings)
     (ap (λ (o : ReadOut). (o .answer, o .settings)) (p ∙ sym q))
@@ -73,35 +66,6 @@ one-report : (d : ReportOut) → One (λ (o : Answer × List ℕ). reportOut (o 
 one-report d a b p q =
     beside (λ (z : Answer) (s : List ℕ). (z, s)) (a .0) (b .0) (a .1) (b .1) (ap (λ (o : ReportOut). (o .answer, o .buffer)) (p ∙ sym q))
 
--- ---- a place of a text, which is told by what follows it
-
-module _ (s : List ℕ) where
-  one-place : (m n : ℕ) → m ≤ length s → n ≤ length s → drop m s ≡ drop n s → m ≡ n
-  one-place m n p q e = omega (arith, simp length-drop at (ap length e))
-
-  seen-one : (a b : Number) → seen s a ≡ seen s b → Within s a → Within s b → a ≡ b
-  seen-one (number-is.Value v m) (number-is.Value w n) e p q = cc (one-place m n p q (cc))
-  seen-one (number-is.Value v m) number-is.Ill e p q = cc
-  seen-one number-is.Ill (number-is.Value w n) e p q = cc
-  seen-one number-is.Ill number-is.Ill e p q = refl
-
-  line-one : (a b : Line) → lineSeen s a ≡ lineSeen s b → LineWithin s a → LineWithin s b → a ≡ b
-  line-one (line-is.Value v m) (line-is.Value w n) e p q = cc (one-place m n p q (cc))
-  line-one (line-is.Value v m) line-is.Ill e p q = cc
-  line-one (line-is.Value v m) line-is.Out e p q = cc
-  line-one line-is.Ill (line-is.Value w n) e p q = cc
-  line-one line-is.Ill line-is.Ill e p q = refl
-  line-one line-is.Ill line-is.Out e p q = cc
-  line-one line-is.Out (line-is.Value w n) e p q = cc
-  line-one line-is.Out line-is.Ill e p q = cc
-  line-one line-is.Out line-is.Out e p q = refl
-
-  number-known : (at k : ℕ) → One (NumberIs s at k)
-  number-known at k a b p q = seen-one a b (p .says ∙ sym (q .says)) (p .inside) (q .inside)
-
-  line-known : (at : ℕ) (h : List ℕ) (r : Range) → One (LineIs s at h r)
-  line-known at h r a b p q = line-one a b (p .says ∙ sym (q .says)) (p .inside) (q .inside)
-
 pub one-outcome : OneOutcome
 one-outcome =
     record {
@@ -120,11 +84,9 @@ one-outcome =
       number = λ a. known _;
       is-done = λ a. known _;
       refusal = λ κs done log room. told-known _;
-      read-number = λ κs text at digits. number-known _ at digits;
       read-line = λ κs text at head range. line-known _ at _ range;
       read-key = λ κs text at n range. line-known _ at _ range;
       put-bytes = λ κs buffer at s. laid _ _;
-      put-number = λ κs buffer at n. laid _ _;
       put-line = λ κs buffer at head n. laid _ _;
       put-key = λ κs buffer at n v. laid _ _;
       put-keys = λ κs buffer at first values. laid _ _;

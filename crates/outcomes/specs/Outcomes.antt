@@ -11,10 +11,8 @@ use Rattle.settings.specs.declared.Settings.{Settings}
 use Rattle.board.specs.declared.Board.{Board}
 use Rattle.answer.proofs.Answer.number.Reads as number-contract
 use Rattle.answer.proofs.Answer.is_done.Reads as is-done-contract
-use Rattle.text.proofs.read_number.Reads as read-number-contract
 use Rattle.text.proofs.read_line.Reads as read-line-contract
 use Rattle.text.proofs.put_bytes.Reads as put-bytes-contract
-use Rattle.text.proofs.put_number.Reads as put-number-contract
 use Rattle.text.proofs.put_line.Reads as put-line-contract
 use Rattle.keys.proofs.read_line.Reads as read-key-contract
 use Rattle.keys.proofs.put_line.Reads as put-key-contract
@@ -73,11 +71,9 @@ pub record OneOutcome : Type 0 where
   pub is-done : (a : Answer) → OneValue (is-done-contract.Post tt) (a, tt)
   -- every other public function whose `ensures` is no plain equation of the result
   pub refusal : (κs : Lfts 1) (done : ℕ) (log : Lent) (room : ℕ) → OneValue (refusal-contract.Post κs) (done, (log, (room, tt)))
-  pub read-number : (κs : Lfts 1) (text : Lent) (at digits : ℕ) → OneValue (read-number-contract.Post κs) (text, (at, (digits, tt)))
   pub read-line : (κs : Lfts 2) (text : Lent) (at : ℕ) (head : Lent) (range : Range) → OneValue (read-line-contract.Post κs) (text, (at, (head, (range, tt))))
   pub read-key : (κs : Lfts 1) (text : Lent) (at n : ℕ) (range : Range) → OneValue (read-key-contract.Post κs) (text, (at, (n, (range, tt))))
   pub put-bytes : (κs : Lfts 2) (buffer : Lent) (at : ℕ) (s : Lent) → OneFilling (put-bytes-contract.Post κs) (λ out. (out, (at, (s, tt)))) buffer
-  pub put-number : (κs : Lfts 1) (buffer : Lent) (at n : ℕ) → OneFilling (put-number-contract.Post κs) (λ out. (out, (at, (n, tt)))) buffer
   pub put-line : (κs : Lfts 2) (buffer : Lent) (at : ℕ) (head : Lent) (n : ℕ)
       → OneFilling (put-line-contract.Post κs) (λ out. (out, (at, (head, (n, tt))))) buffer
   pub put-key : (κs : Lfts 1) (buffer : Lent) (at n v : ℕ) → OneFilling (put-key-contract.Post κs) (λ out. (out, (at, (n, (v, tt))))) buffer

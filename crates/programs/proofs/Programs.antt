@@ -12,7 +12,7 @@ use Rattle.laws.proofs.Bools.{if-yes}
 use Rattle.answer.specs.Told.{DONE, RANGE, BOARD, ROOM}
 use Rattle.answer.proofs.Told.{not-done}
 use Rattle.text.specs.Number.{number}
-use Rattle.text.specs.Lines.{head, row, readLine}
+use Rattle.text.specs.Lines.{lineHead, lineText, readLine}
 use Rattle.keys.specs.Settings.{table}
 use Rattle.keys.specs.Report.{commonKeys, blockKeys}
 use Rattle.settings.specs.declared.Settings.{Settings}
@@ -34,10 +34,10 @@ use Rattle.board.specs.Fresh.{freshBoard, freshOf}
 use Rattle.board.specs.Block.{RanOut, answerOf, blockOf}
 use Rattle.board.proofs.Answers.{block-ready, ready-done, block-answer, block-done}
 use Rattle.board.proofs.Keeps.{fresh-sound, ran-count}
-use Rattle.report.specs.Report.{blockOf as reportBlock, blocksFrom, reportText, reportAnswer, reported}
+use Rattle.report.specs.Report.{controllerText, blocksFrom, reportText, reportAnswer, reported}
 use Rattle.cut.proofs.Cut.{cut}
 use Rattle.balance.proofs.Balance.{balance}
-use Rattle.programs.specs.Programs.{orbitZero, fresh, unsound, crossing, shortened, damaged, requestedIn, Reading, Writing, Making, Running, Reporting, NoEmptyProgram}
+use Rattle.programs.specs.Programs.{orbitZero, fresh, unsound, crossing, shortened, damaged, requestedIn, Reads, Writes, Makes, Runs, Reports, NoEmptyProgram}
 
 zero-checks : checked orbitZero ≡ RANGE 1
 unfolding checked standard table
@@ -52,8 +52,8 @@ standard-long : length (standard .values) ≡ 71
 unfolding standard
 standard-long = refl
 
-reading : Reading
-unfolding readText table readLine head row number
+reading : Reads
+unfolding readText table readLine lineHead lineText number
 reading =
     record {
       accepts = text-reads-back;
@@ -71,7 +71,7 @@ write-fits s room e =
     let ok : checked s ≡ DONE = write-checks s room e in
     (ok, room-yes (length (textOf s)) room (rw ok at e))
 
-writing : Writing
+writing : Writes
 unfolding written writeAnswer
 writing =
     record {
@@ -82,7 +82,7 @@ writing =
       no-orbit = rw zero-checks;
     }
 
-making : Making
+making : Makes
 unfolding freshOf freshBoard
 making =
     record {
@@ -107,7 +107,7 @@ accepts-crossing requests = answers (crossing requests)
 counted : (requests : ℕ) → requestedIn (blockOf fresh (crossing requests) (replicate 12 0) .board) ≡ requestedIn (ran 1 fresh (crossing requests))
 counted requests = ap (λ (o : RanOut). requestedIn (o .board)) (block-done fresh (crossing requests) (replicate 12 0) (accepts-crossing requests))
 
-running : Running
+running : Runs
 unfolding refusalOf firstNot well wellCrossing wellCommand ran stepped boardCrossed mapI actOf crossedOf requestedOf askedIn freshBoard
 running =
     record {
@@ -131,14 +131,14 @@ report-fits b room e =
     (way .0, room-yes (length (reportText b)) room (way .1))
 
 fresh-length : length (reportText fresh) ≡ 192
-unfolding reportText commonKeys blockKeys reportBlock blocksFrom row head freshBoard freshTurn nextFrom takesOver tabulate standard
+unfolding reportText commonKeys blockKeys controllerText blocksFrom lineText lineHead freshBoard freshTurn nextFrom takesOver tabulate standard
 fresh-length = refl
 
 not-sound : soundBoard unsound ≡ false
 unfolding soundBoard freshBoard
 not-sound = rw zero-checks
 
-reporting : Reporting
+reporting : Reports
 unfolding reported reportAnswer
 reporting =
     record {

@@ -18,7 +18,7 @@ use Rattle.ptc.specs.declared.counts.Calibrations.{Calibrations}
 use Rattle.ptc.specs.Cycle.{keptOf, openedOf, cycleCode, asksOf}
 use Rattle.ptc.specs.Counts.{noCounts, requestedOf, calibratedOf, countedOf, fateOf}
 use Rattle.ptc.specs.Crossing.{freeIn, codeOf, eventsOf, crossedOf}
-use Rattle.ptc.specs.Rest.{restedOf}
+use Rattle.ptc.specs.support.Rest.{restedOf}
 use Rattle.ptc.specs.Command.{ledPtc}
 
 pub counted-is : (asked : Bool) (fate : ℕ) (asks free : Bool) (c : Counts) {r : Counts} {cal : Calibrations}

@@ -23,7 +23,7 @@ use Rattle.ptc.specs.Cycle.{keptOf, openedOf, asksOf}
 use Rattle.ptc.specs.Counts.{fateOf, noCounts}
 use Rattle.ptc.specs.Crossing.{freeIn, eventsOf, crossedOf}
 use Rattle.ptc.specs.Command.{armedPtc, ledPtc, commandedOf}
-use Rattle.ptc.specs.Room.{Room}
+use Rattle.ptc.specs.support.Room.{Room}
 use Rattle.ptc.specs.Sound.{soundCycle, soundCounts, soundPtc}
 use Rattle.ptc.proofs.Tallies.{if-zero-le}
 use Rattle.ptc.proofs.Balance.{counts-read, counted-sound, none-sound, fate-once}

@@ -13,7 +13,7 @@ use Rattle.laws.proofs.Tests.{either}
 use Rattle.settings.specs.declared.names.Schedule.{Schedule}
 use Rattle.states.specs.Names.{running}
 use Rattle.states.specs.Moves.{orbitCode}
-use Rattle.states.specs.Rest.{resting}
+use Rattle.states.specs.support.Rest.{resting}
 use Rattle.states.proofs.Rest.{rest-moved}
 use Rattle.ptc.specs.declared.Ptc.{Ptc}
 use Rattle.ptc.specs.declared.Plan.{Plan}
@@ -22,7 +22,7 @@ use Rattle.ptc.specs.declared.counts.Counts.{Counts}
 use Rattle.ptc.specs.Cycle.{keptOf, openedOf, cycleCode, asksOf}
 use Rattle.ptc.specs.Counts.{fateOf, requestedOf, calibratedOf, countedOf}
 use Rattle.ptc.specs.Crossing.{codeOf, crossedOf}
-use Rattle.ptc.specs.Rest.{atRest, restedOf}
+use Rattle.ptc.specs.support.Rest.{atRest, restedOf}
 use Rattle.ptc.proofs.Cycles.{open-is-held}
 
 -- the parts of the test

@@ -33,7 +33,7 @@ abbrev pub inGap : Gap → ℕ → Bool
 inGap g number = leb (g .low) number && leb number (g .high)
 
 -- a request is lost under the first that holds: state (not 7, 8); slot (not holder); gap; cal (cycle open); throttle
-unfoldable pub fateOf : Gap → ℕ → ℕ → Bool → ℕ → Bool → ℕ
+unfoldable pub fateOf : (g : Gap) (number s : ℕ) (own : Bool) (cycle : ℕ) (free : Bool) → ℕ
 fateOf g number s own cycle free =
     if (running s)
     (if own

@@ -17,14 +17,14 @@ abbrev pub freeIn : Scene → ℕ → Bool
 freeIn scene s = if (eqb s WARN) (scene .low) (scene .norm)
 
 -- at one number one code is sent: by the move, in every state, or by the cycle
-abbrev pub codeOf : ℕ → ℕ → ℕ → ℕ
+abbrev pub codeOf : (move orbit cycle : ℕ) → ℕ
 codeOf move orbit cycle = if (ltb 0 move) move (if (ltb 0 orbit) orbit cycle)
 
 -- code 7 sets events to 0; then both kinds of trigger count
-abbrev pub eventsOf : ℕ → ℕ → Bool → Bool → ℕ
+abbrev pub eventsOf : (move events : ℕ) (sent cal : Bool) → ℕ
 eventsOf move events sent cal = if (eqb move 7) 0 events + one (sent || cal)
 
-unfoldable pub crossedOf : Plan → Scene → ℕ → ℕ → Bool → Ptc → Crossed
+unfoldable pub crossedOf : (plan : Plan) (scene : Scene) (k class : ℕ) (asked : Bool) (p : Ptc) → Crossed
 crossedOf plan scene k class asked p =
     let at = plan .at in
     let number = scene .number in

@@ -1,7 +1,7 @@
 pub mod Cycle
 pub mod Counts
-pub mod Room
+pub mod Fresh
 pub mod Crossing
-pub mod Rest
 pub mod Command
 pub mod Sound
+pub mod support

@@ -1,5 +1,5 @@
 -- Document 01, "Sound": what a controller needs, among m crossings done, where own says whether it is the holder.
-use Prim.Native.Nat.{ℕ, _+_, _≤_}
+use Prim.Native.Nat.{ℕ, _+_}
 use mathlib.Core.Bool.{Bool, true, _&&_}
 use lib.Dec.{leb, eqb}
 use Rattle.laws.specs.Base.{if}
@@ -12,7 +12,7 @@ use Rattle.ptc.specs.declared.counts.Calibrations.{Calibrations}
 use Rattle.ptc.specs.Cycle.{NONE, OPEN}
 
 -- a calibration cycle only in states 7, 8, and an open one only at the holder
-abbrev pub soundCycle : Bool → ℕ → ℕ → Bool
+abbrev pub soundCycle : (own : Bool) (s cycle : ℕ) → Bool
 soundCycle own s cycle = leb cycle 2 && (if (eqb cycle NONE) true (running s) && if (eqb cycle OPEN) own true)
 
 -- every count ≤ crossings done
@@ -35,7 +35,7 @@ soundCounts m c =
     && (eqb (c .requested) (c .accepted + lostSum (c .lost))
     && eqb (c .cal .requested) (c .cal .accepted + c .cal .lost)))))
 
-unfoldable pub soundPtc : ℕ → Bool → ℕ → Ptc → Bool
+unfoldable pub soundPtc : (k : ℕ) (own : Bool) (m : ℕ) (p : Ptc) → Bool
 soundPtc k own m p =
     soundState k (p .state) (p .wait)
     && (soundCycle own (p .state) (p .cycle)

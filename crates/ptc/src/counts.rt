@@ -3,22 +3,20 @@ use crate::cycle::OPEN;
 use settings::Gap;
 use states::is_running;
 ghost use mathlib.Core.Path.{_≡_};
-ghost use Prim.Native.Nat.{_<_, _^_};
-ghost use Rattle.laws.specs.Base.{one};
 ghost use Rattle.ptc.specs.Counts.{inGap, fateOf, lostTo, requestedOf, calibratedOf, countedOf, noCounts};
-ghost use Rattle.ptc.specs.Room.{LostRoom, CalRoom, CountsRoom};
+ghost use Rattle.ptc.specs.support.Room.{LostRoom, CalRoom, CountsRoom};
 
-pub const SENT: u8 = 0;
+pub(crate) const SENT: u8 = 0;
 
-pub const STATE: u8 = 1;
+pub(crate) const STATE: u8 = 1;
 
-pub const SLOT: u8 = 2;
+pub(crate) const SLOT: u8 = 2;
 
-pub const GAP: u8 = 3;
+pub(crate) const GAP: u8 = 3;
 
-pub const CAL: u8 = 4;
+pub(crate) const CAL: u8 = 4;
 
-pub const THROTTLE: u8 = 5;
+pub(crate) const THROTTLE: u8 = 5;
 
 // Requests that were lost, by cause.
 pub struct Lost {
@@ -44,12 +42,6 @@ pub struct Counts {
     pub cal: Calibrations,
 }
 
-pub fn one(t: bool) -> u64
-    ensures { λ r. ⌜ r ≡ one t ⌝ }
-{
-    if t { 1 } else { 0 }
-}
-
 fn in_gap(gap: Gap, number: u32) -> bool
     ensures { λ r. ⌜ r ≡ inGap gap number ⌝ }
 {
@@ -57,7 +49,7 @@ fn in_gap(gap: Gap, number: u32) -> bool
 }
 
 // Lost under the first cause that holds: state, slot, gap, cal, throttle; or sent.
-pub fn fate(gap: Gap, number: u32, state: u8, own: bool, cycle: u8, free: bool) -> u8
+pub(crate) fn fate(gap: Gap, number: u32, state: u8, own: bool, cycle: u8, free: bool) -> u8
     ensures { λ r. ⌜ r ≡ fateOf gap number state own cycle free ⌝ }
 {
     if !is_running(state) {
@@ -81,11 +73,11 @@ impl Lost {
         ensures { λ r. ⌜ r ≡ lostTo fate self ⌝ }
     {
         Lost {
-            state: self.state + one(fate == STATE),
-            slot: self.slot + one(fate == SLOT),
-            gap: self.gap + one(fate == GAP),
-            cal: self.cal + one(fate == CAL),
-            throttle: self.throttle + one(fate == THROTTLE),
+            state: self.state + plain::one(fate == STATE),
+            slot: self.slot + plain::one(fate == SLOT),
+            gap: self.gap + plain::one(fate == GAP),
+            cal: self.cal + plain::one(fate == CAL),
+            throttle: self.throttle + plain::one(fate == THROTTLE),
         }
     }
 }
@@ -100,8 +92,8 @@ impl Calibrations {
         }
         Calibrations {
             requested: self.requested + 1,
-            accepted: self.accepted + one(free),
-            lost: self.lost + one(!free),
+            accepted: self.accepted + plain::one(free),
+            lost: self.lost + plain::one(!free),
         }
     }
 }
@@ -130,7 +122,7 @@ impl Counts {
         }
     }
 
-    pub fn with_request(self, asked: bool, fate: u8) -> Counts
+    pub(crate) fn with_request(self, asked: bool, fate: u8) -> Counts
         requires { ⌜ CountsRoom self ⌝ }
         ensures { λ r. ⌜ r ≡ requestedOf asked fate self ⌝ }
     {
@@ -141,14 +133,14 @@ impl Counts {
         let cal = self.cal;
         Counts {
             requested: self.requested + 1,
-            accepted: self.accepted + one(fate == SENT),
+            accepted: self.accepted + plain::one(fate == SENT),
             lost: lost,
             cal: cal,
         }
     }
 
     // A crossing's request and calibration trigger.
-    pub fn counted(self, asked: bool, fate: u8, asks: bool, free: bool) -> Counts
+    pub(crate) fn counted(self, asked: bool, fate: u8, asks: bool, free: bool) -> Counts
         requires { ⌜ CountsRoom self ⌝ }
         ensures { λ r. ⌜ r ≡ countedOf asked fate asks free self ⌝ }
     {

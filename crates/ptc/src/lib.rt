@@ -14,14 +14,15 @@ use settings::Gap;
 use settings::Schedule;
 use settings::Waits;
 ghost use mathlib.Core.Path.{_≡_};
-ghost use mathlib.Core.Bool.{_&&_, _||_};
+ghost use mathlib.Core.Bool.{_||_};
 ghost use Prim.Native.Nat.{_<_, _^_};
 ghost use lib.Dec.{eqb};
 ghost use Rattle.laws.specs.Base.{if};
 ghost use Rattle.ptc.specs.Counts.{noCounts};
-ghost use Rattle.ptc.specs.Room.{Room};
+ghost use Rattle.ptc.specs.support.Room.{Room};
+ghost use Rattle.ptc.specs.Fresh.{freshPtc};
 ghost use Rattle.ptc.specs.Crossing.{freeIn, codeOf, eventsOf, crossedOf};
-ghost use Rattle.ptc.specs.Rest.{atRest, restedOf};
+ghost use Rattle.ptc.specs.support.Rest.{atRest, restedOf};
 ghost use Rattle.ptc.specs.Command.{armedPtc, ledPtc, commandedOf};
 
 pub struct Ptc {
@@ -90,13 +91,7 @@ fn events_of(step: u8, events: u64, sent: bool, cal: bool) -> u64
     ensures { λ r. ⌜ r ≡ eventsOf step events sent cal ⌝ }
 {
     let before = events_before(step, events);
-    before + counts::one(either(sent, cal))
-}
-
-fn both(a: bool, b: bool) -> bool
-    ensures { λ r. ⌜ r ≡ (a && b) ⌝ }
-{
-    a && b
+    before + plain::one(either(sent, cal))
 }
 
 fn either(a: bool, b: bool) -> bool
@@ -119,6 +114,20 @@ fn ended(asks: bool, cycle: u8) -> u8
 }
 
 impl Ptc {
+    // A controller of a fresh board.
+    pub fn fresh() -> Ptc
+        ensures { λ r. ⌜ r ≡ freshPtc ⌝ }
+    {
+        let counts = Counts::none();
+        Ptc {
+            state: 0,
+            wait: 0,
+            cycle: 0,
+            counts: counts,
+            events: 0,
+        }
+    }
+
     // Steps 3 and 4 of a crossing: the move, then the cycle and the trigger by the state after it.
     pub fn crossed(self, plan: Plan, scene: Scene, k: u32, class: u8, asked: bool) -> Crossed
         requires { ⌜ Room self ⌝ }
@@ -133,8 +142,8 @@ impl Ptc {
         let asks = asks_trigger(at, number, cycle);
         let free = scene.free_in(step.state);
         let fate = counts::fate(plan.gap, number, step.state, own, cycle, free);
-        let sent = both(asked, is_sent(fate));
-        let cal = both(asks, free);
+        let sent = plain::both(asked, is_sent(fate));
+        let cal = plain::both(asks, free);
         let counts = self.counts.counted(asked, fate, asks, free);
         let ptc = Ptc {
             state: step.state,
@@ -180,14 +189,14 @@ impl Ptc {
             cycle::NONE,
             free,
         );
-        let sent = both(asked, is_sent(fate));
+        let sent = plain::both(asked, is_sent(fate));
         let counts = self.counts.with_request(asked, fate);
         let ptc = Ptc {
             state: self.state,
             wait: self.wait,
             cycle: self.cycle,
             counts: counts,
-            events: self.events + counts::one(sent),
+            events: self.events + plain::one(sent),
         };
         Crossed {
             ptc: ptc,

@@ -5,8 +5,7 @@ use crate::counts::Counts;
 use crate::counts::Lost;
 use states::is_running;
 ghost use mathlib.Core.Path.{_≡_};
-ghost use Prim.Native.Nat.{_+_, _<_, _≤_, _^_};
-ghost use mathlib.Core.Bool.{true};
+ghost use Prim.Native.Nat.{_<_, _^_};
 ghost use Rattle.ptc.specs.Sound.{soundCycle, soundLost, soundCal, lostSum, soundCounts, soundPtc};
 
 fn is_cycle_sound(own: bool, state: u8, cycle: u8) -> bool

@@ -5,7 +5,7 @@ use ptc::Plan;
 use ptc::Ptc;
 use ptc::Scene;
 use settings::Settings;
-ghost use Rattle.ptc.specs.Room.{Room};
+ghost use Rattle.ptc.specs.support.Room.{Room};
 
 fn say(text: &[u8]) {
     io::write_all(STDOUT_FILENO, text);

@@ -22,7 +22,7 @@ use Rattle.answer.specs.Told.{DONE, LENGTH, ROOM, RECORD, LIFE}
 use Rattle.answer.proofs.Told.{not-done}
 use Rattle.records.specs.Records.{recAt, isCrossing, codesIn, sameCodes, wellCrossing, wellCommand, well, firstIll, crossingsIn}
 use Rattle.records.specs.Rows.{rowByte, packed, crossingRow, commandRow}
-use Rattle.records.specs.Refusal.{MOST, recordsIn, refusalOf, Ready}
+use Rattle.records.specs.Refusal.{LIFETIME, recordsIn, refusalOf, Ready}
 
 -- a record of a block: its length, its bytes, and the same record after a cut
 pub rec-long : (log : List ℕ) (i n : ℕ) → length log ≡ 24 * n → i < n → length (recAt log i) ≡ 24
@@ -221,7 +221,7 @@ ready done log room e =
     let whole = if-yes (eqb (length log % 24) 0) _ LENGTH DONE e (not-done LENGTH (omega arith)) in
     let space = if-yes (leb (12 * n) room) _ (ROOM (12 * n)) DONE (whole .1) (not-done (ROOM (12 * n)) (omega arith)) in
     let formed = if-yes (eqb (firstIll n log) n) _ (RECORD (firstIll n log)) DONE (space .1) (not-done (RECORD (firstIll n log)) (omega arith)) in
-    let life = if-yes (leb (done + crossingsIn n log) MOST) DONE LIFE DONE (formed .1) (not-done LIFE (omega arith)) in
+    let life = if-yes (leb (done + crossingsIn n log) LIFETIME) DONE LIFE DONE (formed .1) (not-done LIFE (omega arith)) in
     let no-rest : length log % 24 ≡ 0 = eqb-true _ _ (whole .0) in
     record {
       whole = omega arith;

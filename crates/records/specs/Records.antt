@@ -19,7 +19,7 @@ abbrev pub markerIn : List ℕ → Bool
 markerIn rec = eqb (getD rec 1 0) 1
 
 -- byte 2 = requests, bit n for controller n
-unfoldable pub askedIn : ℕ → ℕ → Bool
+unfoldable pub askedIn : (requests k : ℕ) → Bool
 askedIn requests k = eqb (requests / 2 ^ k % 2) 1
 
 -- byte 3 = GTFE code, then partition codes and aTTS codes

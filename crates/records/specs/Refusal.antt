@@ -9,21 +9,21 @@ use Rattle.answer.specs.Told.{Told, DONE, LENGTH, ROOM, RECORD, LIFE}
 use Rattle.records.specs.Records.{firstIll, crossingsIn}
 
 -- a board's life in crossings, 2^40 − 1
-abbrev pub MOST : ℕ
-MOST = 1099511627775
+abbrev pub LIFETIME : ℕ
+LIFETIME = 1099511627775
 
 -- how many records a block has
 abbrev pub recordsIn : List ℕ → ℕ
 recordsIn log = length log / 24
 
 -- LENGTH, ROOM, RECORD, LIFE, in that order; done is the crossings done, room the length of the rows buffer
-unfoldable pub refusalOf : ℕ → List ℕ → ℕ → Told
+unfoldable pub refusalOf : (done : ℕ) (log : List ℕ) (room : ℕ) → Told
 refusalOf done log room =
     let n = recordsIn log in
     if (eqb (length log % 24) 0)
     (if (leb (12 * n) room)
     (if (eqb (firstIll n log) n)
-    (if (leb (done + crossingsIn n log) MOST) DONE LIFE)
+    (if (leb (done + crossingsIn n log) LIFETIME) DONE LIFE)
     (RECORD (firstIll n log)))
     (ROOM (12 * n)))
     LENGTH
@@ -33,4 +33,4 @@ pub record Ready (done : ℕ) (log : List ℕ) (room : ℕ) : Type 0 where
   pub whole : length log ≡ 24 * recordsIn log
   pub space : 12 * recordsIn log ≤ room
   pub formed : firstIll (recordsIn log) log ≡ recordsIn log
-  pub life : done + crossingsIn (recordsIn log) log ≤ MOST
+  pub life : done + crossingsIn (recordsIn log) log ≤ LIFETIME

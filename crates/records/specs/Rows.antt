@@ -7,7 +7,7 @@ use lib.ListN.{getD, replicate}
 use Rattle.laws.specs.Base.{if, one, allB}
 
 -- byte n for controller n: bits 0–3 the command code sent or 0, bit 4 a request sent as trigger, bit 5 a calibration trigger sent
-unfoldable pub rowByte : ℕ → Bool → Bool → ℕ
+unfoldable pub rowByte : (code : ℕ) (sent cal : Bool) → ℕ
 rowByte code sent cal = code + (16 * one sent + 32 * one cal)
 
 -- status codes, as in a record: an even controller has the low nibble

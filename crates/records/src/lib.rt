@@ -8,21 +8,20 @@ pub use rows::crossing_row;
 pub use rows::put_row;
 pub use rows::row_byte;
 ghost use mathlib.Core.Path.{_≡_};
-ghost use mathlib.Core.Bool.{_&&_};
 ghost use Prim.Native.Nat.{_+_, _-_, _*_, _≤_, _<_};
 ghost use lib.Dec.{eqb};
 ghost use lib.ListN.{length, drop};
 ghost use Rattle.laws.specs.Base.{one, allB};
 ghost use Rattle.answer.specs.Told.{told};
 ghost use Rattle.records.specs.Records.{recAt, askedIn, sameCodes, wellCrossing, wellCommand, well, firstIll, crossingsIn};
-ghost use Rattle.records.specs.Refusal.{MOST, refusalOf};
+ghost use Rattle.records.specs.Refusal.{LIFETIME, refusalOf};
 
 pub const RECORD: usize = 24;
 
 pub const ROW: usize = 12;
 
 // A board's life in crossings, 2^40 - 1.
-pub const LIFE: u64 = 1099511627775;
+pub const LIFETIME: u64 = 1099511627775;
 
 // Whether controller k's bit stands in the requests of a crossing.
 pub fn asked(requests: u8, k: usize) -> bool
@@ -30,12 +29,6 @@ pub fn asked(requests: u8, k: usize) -> bool
     ensures { λ r. ⌜ r ≡ askedIn requests k ⌝ }
 {
     (requests as u64 >> k as u64) % 2 == 1
-}
-
-fn both(a: bool, b: bool) -> bool
-    ensures { λ r. ⌜ r ≡ (a && b) ⌝ }
-{
-    a && b
 }
 
 // Whether record i has the codes of the one before it. It looks at all of them, so that the compiler compares them at once.
@@ -48,7 +41,7 @@ pub fn repeats(log: &[u8], i: usize) -> bool
     let mut same = true;
     let mut k = 0;
     while k < 21 {
-        same = both(same, log[at + 3 + k] == log[before + 3 + k]);
+        same = plain::both(same, log[at + 3 + k] == log[before + 3 + k]);
         k += 1;
     }
     same
@@ -94,7 +87,7 @@ fn is_well_command(rec: &[u8]) -> bool
     is_rest_clear(rec)
 }
 
-pub fn is_well(rec: &[u8]) -> bool
+fn is_well(rec: &[u8]) -> bool
     requires { ⌜ length (now rec) ≡ 24 ⌝ }
     ensures { λ r. ⌜ r ≡ well (now (rec .entry)) ⌝ }
 {
@@ -138,7 +131,7 @@ fn crossings_in(log: &[u8], n: usize) -> u64
 
 // What a block is refused for on a sound board: LENGTH, ROOM, RECORD, LIFE, in that order. It touches nothing.
 pub fn refusal(done: u64, log: &[u8], room: usize) -> Answer
-    requires { ⌜ done ≤ MOST ⌝ }
+    requires { ⌜ done ≤ LIFETIME ⌝ }
     ensures { λ r. ⌜ told r ≡ refusalOf done (now (log .entry)) room ⌝ }
 {
     let n = log.len() / RECORD;
@@ -152,7 +145,7 @@ pub fn refusal(done: u64, log: &[u8], room: usize) -> Answer
     if ill != n {
         return Answer::Record(ill);
     }
-    if done + crossings_in(log, n) <= LIFE {
+    if done + crossings_in(log, n) <= LIFETIME {
         return Answer::Done;
     }
     Answer::Life

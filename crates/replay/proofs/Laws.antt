@@ -3,16 +3,16 @@
 use mathlib.Core.Path.{_≡_, sym, ap, _∙_}
 use mathlib.Core.Bool.{true, false}
 use mathlib.Core.List.{List, [], _∷_, append-nil}
-use Prim.Native.Nat.{ℕ, zero, suc, _+_, _*_, _-_, _≤_, min}
+use Prim.Native.Nat.{ℕ, zero, suc, _+_, _*_, _-_, _≤_, _<_, min}
 use native.Mathlib.Nat.{zero-min, min-zero, suc-min-suc, zero-add, suc-add}
 use native.Mathlib.Numerals.{add-one}
 use native.Mathlib.Omega.{arith}
-use lib.ListN.{length, take, drop, length-drop, drop-of-length-le}
-use lib.Seq.{take-all}
+use lib.ListN.{length, take, drop, length-take, length-drop, drop-of-length-le}
+use lib.Seq.{take-all, length-take-le}
 use borrow.Rule.Slice.PartMut.{putMid}
 use Rattle.answer.specs.Told.{told, succeeded, DONE}
 use Rattle.settings.specs.declared.Settings.{Settings}
-use Rattle.settings.specs.declared.Reading.{Reading}
+use Rattle.settings.specs.declared.Read.{Read}
 use Rattle.settings.specs.Read.{standard, readText, readOut}
 use Rattle.settings.proofs.Standard.{standard-checks}
 use Rattle.board.specs.declared.Board.{Board}
@@ -20,11 +20,12 @@ use Rattle.board.specs.declared.Made.{Made}
 use Rattle.board.specs.declared.Ran.{Ran}
 use Rattle.board.specs.Fresh.{freshOf, MadeOut, madeOut}
 use Rattle.board.specs.Block.{RanOut, ranOut, blockOf}
+use Rattle.board.proofs.Answers.{block-ready, block-answer}
 use Rattle.replay.specs.Replay.{openedOf, blockAt, inBlocks}
 
 -- ---- the board that a text opens
 
-module _ (text : List ℕ) (r : Reading) (is : readOut r ≡ readText text) (m : Made) where
+module _ (text : List ℕ) (r : Read) (is : readOut r ≡ readText text) (m : Made) where
   pub opened-done : succeeded (told (r .answer)) ≡ true → madeOut m ≡ freshOf (r .settings) → madeOut m ≡ openedOf text
   unfolding openedOf
   opened-done d made = rw (← is, d) made
@@ -49,7 +50,7 @@ part-is log i end e =
 -- ---- the blocks
 
 module _ (b₀ : Board) (log rows₀ : List ℕ) where
-  stays : (k i : ℕ) → succeeded (inBlocks i b₀ log rows₀ .answer) ≡ false → inBlocks (k + i) b₀ log rows₀ ≡ inBlocks i b₀ log rows₀
+  pub stays : (k i : ℕ) → succeeded (inBlocks i b₀ log rows₀ .answer) ≡ false → inBlocks (k + i) b₀ log rows₀ ≡ inBlocks i b₀ log rows₀
   unfolding inBlocks
   stays zero i d = rw zero-add
   stays (suc k) i d = rw (suc-add, stays k i d, d)
@@ -72,6 +73,16 @@ module _ (b₀ : Board) (log rows₀ : List ℕ) where
       pub again : told (r .answer) ≡ DONE
           → inBlocks (i + 1) b₀ log rows₀ ≡ record { answer = DONE; board = r .board; rows = putMid (768 * i) (length rows - 768 * i) rows part }
       again d = rw (add-one, turn, d)
+
+      -- a block that goes through and is not the last wrote 768 bytes, so there is room before the next
+      pub room-next : told (r .answer) ≡ DONE → 1536 * (i + 1) < length log → 768 * (i + 1) ≤ length rows
+      room-next d h =
+          let lent = take (length rows - 768 * i) (drop (768 * i) rows) in
+          let done : blockOf b recs lent .answer ≡ DONE = sym (ap (λ (o : RanOut). o .answer) ran) ∙ d in
+          let r = block-ready b recs (length lent) (sym (block-answer b recs lent) ∙ done) .1 in
+          let long : length recs ≡ 1536 = ap length at ∙ length-take-le 1536 (drop (1536 * i) log) (rw length-drop (omega arith)) in
+          let short : length lent ≤ length rows - 768 * i = rw (length-take, length-drop) (omega arith) in
+          omega (arith, r .space, short)
 
       pub refused : succeeded (told (r .answer)) ≡ false → (n : ℕ) → i + 1 ≤ n → After ≡ inBlocks n b₀ log rows₀
       refused d n h =

@@ -17,7 +17,7 @@ use Rattle.laws.proofs.Tests.{either}
 use Rattle.text.specs.declared.Range.{Range}
 use Rattle.text.specs.Bytes.{starts}
 use Rattle.text.specs.Number.{Parsed, value, none, isDigit, more, number}
-use Rattle.text.specs.Lines.{Entry, head, Taken, taken, ill, out, within, ranged, readLine, Lines, all, textAt, rangeAt, andThen, readLines}
+use Rattle.text.specs.Lines.{Entry, lineHead, LineRead, taken, ill, out, within, ranged, readLine, Lines, all, textAt, rangeAt, andThen, readLines}
 use Rattle.keys.specs.Settings.{table}
 use Rattle.settings.specs.Read.{concluded, readText}
 use Rattle.replay.specs.Replay.{openedOf}
@@ -72,7 +72,7 @@ number-cut k n (suc m) (b ∷ t) room =
 
 -- ---- a line
 
-abbrev cutTaken : ℕ → Taken → Taken
+abbrev cutTaken : ℕ → LineRead → LineRead
 cutTaken n (taken v t) = taken v (take n t)
 cutTaken n ill = ill
 cutTaken n out = out
@@ -107,10 +107,10 @@ cutLines n (rangeAt i) = rangeAt i
 -- the most bytes that they can have
 abbrev most : List Entry → ℕ
 most [] = 0
-most (l ∷ ls) = length (head (l .key)) + (l .range .digits - 1 + 2) + most ls
+most (l ∷ ls) = length (lineHead (l .key)) + (l .range .digits - 1 + 2) + most ls
 
 then-cut : (n m i : ℕ) (k : ℕ → List ℕ → Lines) → ((v : ℕ) (t : List ℕ) → cutLines n (k v (take m t)) ≡ cutLines n (k v t))
-    → (a : Taken) → cutLines n (andThen (cutTaken m a) i k) ≡ cutLines n (andThen a i k)
+    → (a : LineRead) → cutLines n (andThen (cutTaken m a) i k) ≡ cutLines n (andThen a i k)
 then-cut n m i k on (taken v t) = on v t
 then-cut n m i k on ill = refl
 then-cut n m i k on out = refl
@@ -123,10 +123,10 @@ lines-cut (l ∷ ls) vs n m t room =
     let k : ℕ → List ℕ → Lines = λ v r. readLines ls (vs ++ (v ∷ [])) r in
     let i : ℕ = suc (length vs) in
     let step = then-cut n left i k (λ v r. lines-cut ls (vs ++ (v ∷ [])) n left r (omega arith)) in
-    let line = line-cut (head (l .key)) (l .range) left m t (omega arith) in
-    sym (step (readLine (head (l .key)) (l .range) (take m t)))
-    ∙ ap (λ (a : Taken). cutLines n (andThen a i k)) line
-    ∙ step (readLine (head (l .key)) (l .range) t)
+    let line = line-cut (lineHead (l .key)) (l .range) left m t (omega arith) in
+    sym (step (readLine (lineHead (l .key)) (l .range) (take m t)))
+    ∙ ap (λ (a : LineRead). cutLines n (andThen a i k)) line
+    ∙ step (readLine (lineHead (l .key)) (l .range) t)
 
 -- ---- the text
 
@@ -137,7 +137,7 @@ concluded-cut (textAt i) = refl
 concluded-cut (rangeAt i) = refl
 
 most-table : most table ≡ 965
-unfolding table head
+unfolding table lineHead
 most-table = refl
 
 pub read-by-start : (t : List ℕ) → readText (take 1024 t) ≡ readText t

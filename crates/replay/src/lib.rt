@@ -5,8 +5,7 @@ use board::Made;
 use board::Ran;
 use settings::Settings;
 ghost use mathlib.Core.Path.{_≡_};
-ghost use Prim.Native.Nat.{_*_, _≤_, min};
-ghost use lib.ListN.{length};
+ghost use Prim.Native.Nat.{_+_, _≤_, min};
 ghost use Rattle.board.specs.Fresh.{madeOut};
 ghost use Rattle.board.specs.Block.{ranOut};
 ghost use Rattle.replay.specs.Replay.{openedOf, blocksIn, inBlocks};
@@ -33,22 +32,27 @@ pub fn opened(text: &[u8]) -> Made
     }
 }
 
-fn least(a: usize, b: usize) -> usize
-    ensures { λ r. ⌜ r ≡ min a b ⌝ }
+// Where the block that begins at a place ends.
+fn block_end(at: usize, long: usize) -> usize
+    requires { ⌜ at ≤ long ⌝ }
+    ensures { λ r. ⌜ r ≡ min (at + 1536) long ⌝ }
 {
-    if a < b { a } else { b }
+    if long - at < BLOCK {
+        return long;
+    }
+    at + BLOCK
 }
 
-// The blocks of a log one after the other, each writing its rows where those of the last ended. The first refusal ends it.
+// The blocks of a log one after the other, each writing its rows where those of the last ended. The first refusal ends it: the
+// board is then the one after the blocks before, whose rows are written.
 pub fn run_blocks(board: Board, log: &[u8], rows: &mut [u8]) -> Ran
-    requires { ⌜ 768 * blocksIn (now log) ≤ length (now rows) ⌝ }
     ensures { λ r. ⌜ ranOut r (now (rows .exit)) ≡ inBlocks (blocksIn (now (log .entry))) board (now (log .entry)) (now (rows .entry)) ⌝ }
 {
     let mut b = board;
     let mut i: usize = 0;
     while BLOCK * i < log.len() {
         let at = BLOCK * i;
-        let end = least(at + BLOCK, log.len());
+        let end = block_end(at, log.len());
         let r = b.block(&log[at..end], &mut rows[BLOCK_ROWS * i..]);
         let a = r.answer;
         if !a.is_done() {

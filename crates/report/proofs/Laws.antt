@@ -21,17 +21,17 @@ use Rattle.settings.specs.Names.{slotOf}
 use Rattle.ptc.specs.declared.Ptc.{Ptc}
 use Rattle.board.specs.declared.Board.{Board}
 use Rattle.board.specs.Sound.{soundBoard}
-use Rattle.report.specs.Report.{commonValues, blockValues, blockOf, blocksFrom, reportText, reportOut, reportAnswer, reported}
+use Rattle.report.specs.Report.{commonValues, blockValues, controllerText, blocksFrom, reportText, reportOut, reportAnswer, reported}
 
 -- ---- one block
 
 module _ (s : Settings) (k : ℕ) (p : Ptc) where
-  pub block-none : ltb 0 (slotOf s k) ≡ false → blockOf s k p ≡ []
-  unfolding blockOf
+  pub block-none : ltb 0 (slotOf s k) ≡ false → controllerText s k p ≡ []
+  unfolding controllerText
   block-none off = rw off
 
-  pub block-is : ltb 0 (slotOf s k) ≡ true → (vs : List ℕ) → vs ≡ blockValues k p → blockOf s k p ≡ linesText (drop blockFirst keys) vs
-  unfolding blockOf
+  pub block-is : ltb 0 (slotOf s k) ≡ true → (vs : List ℕ) → vs ≡ blockValues k p → controllerText s k p ≡ linesText (drop blockFirst keys) vs
+  unfolding controllerText
   block-is on vs is = rw (on, is, block-text)
 
 -- ---- the blocks from k on
@@ -41,7 +41,7 @@ Rest b k = blocksFrom (b .settings) k (drop k (b .ptcs))
 
 module _ (b : Board) (k : ℕ) (d : Ptc) (more : k < length (b .ptcs)) where
   abbrev Block : List ℕ
-  Block = blockOf (b .settings) k (getD (b .ptcs) k d)
+  Block = controllerText (b .settings) k (getD (b .ptcs) k d)
 
   next : Rest b k ≡ Block ++ Rest b (k + 1)
   unfolding blocksFrom

@@ -16,7 +16,7 @@ use Rattle.board.specs.Sound.{soundBoard}
 
 -- crossings, orbit, bc_errors, holder
 abbrev pub commonValues : Board → List ℕ
-commonValues b = b .clock .crossings ∷ b .clock .orbit ∷ b .clock .errors ∷ b .turn .holder ∷ []
+commonValues b = b .clock .crossings ∷ b .clock .orbits ∷ b .clock .errors ∷ b .turn .holder ∷ []
 
 -- ptc, state, the ten counts since START, events
 abbrev pub blockValues : ℕ → Ptc → List ℕ
@@ -37,13 +37,13 @@ blockValues k p =
     ∷ []
 
 -- the block of controller k, where it has a slot above 0
-unfoldable pub blockOf : Settings → ℕ → Ptc → List ℕ
-blockOf s k p = if (ltb 0 (slotOf s k)) (linesText blockKeys (blockValues k p)) []
+unfoldable pub controllerText : Settings → ℕ → Ptc → List ℕ
+controllerText s k p = if (ltb 0 (slotOf s k)) (linesText blockKeys (blockValues k p)) []
 
 -- the blocks of the controllers from k on
 unfoldable pub blocksFrom : Settings → ℕ → List Ptc → List ℕ
 blocksFrom s k [] = []
-blocksFrom s k (p ∷ ps) = blockOf s k p ++ blocksFrom s (suc k) ps
+blocksFrom s k (p ∷ ps) = controllerText s k p ++ blocksFrom s (suc k) ps
 
 unfoldable pub reportText : Board → List ℕ
 reportText b = linesText commonKeys (commonValues b) ++ blocksFrom (b .settings) 0 (b .ptcs)

@@ -9,7 +9,7 @@ ghost use lib.Dec.{ltb};
 ghost use lib.ListN.{length};
 ghost use Rattle.text.specs.Bytes.{put};
 ghost use Rattle.settings.specs.Names.{slotOf};
-ghost use Rattle.report.specs.Report.{commonValues, blockValues, blockOf, reportText, reportOut, reported};
+ghost use Rattle.report.specs.Report.{commonValues, blockValues, controllerText, reportText, reportOut, reported};
 
 // Where the report's keys begin in the table, its common ones and those of a block.
 const COMMON: usize = 71;
@@ -21,7 +21,7 @@ fn common_values(b: Board) -> [u64; 4]
 {
     [
         b.clock.crossings,
-        b.clock.orbit,
+        b.clock.orbits,
         b.clock.errors,
         b.turn.holder as u64,
     ]
@@ -59,7 +59,7 @@ fn has_block(s: Settings, k: usize) -> bool
 // How long the block of a controller is.
 fn block_length(s: Settings, k: usize, p: Ptc) -> usize
     requires { ⌜ k < 8 ⌝ }
-    ensures { λ r. ⌜ (r ≡ length (blockOf s k p)) × (r ≤ 65536) ⌝ }
+    ensures { λ r. ⌜ (r ≡ length (controllerText s k p)) × (r ≤ 65536) ⌝ }
 {
     if !has_block(s, k) {
         return 0;
@@ -70,8 +70,8 @@ fn block_length(s: Settings, k: usize, p: Ptc) -> usize
 
 // Lays the block of a controller, and answers the place after it.
 fn put_block(out: &mut [u8], at: usize, s: Settings, k: usize, p: Ptc) -> usize
-    requires { ⌜ (k < 8) × (at + length (blockOf s k p) ≤ length (now out)) ⌝ }
-    ensures { λ r. ⌜ (r ≡ at + length (blockOf s k p)) × (now (out .exit) ≡ put (now (out .entry)) at (blockOf s k p)) ⌝ }
+    requires { ⌜ (k < 8) × (at + length (controllerText s k p) ≤ length (now out)) ⌝ }
+    ensures { λ r. ⌜ (r ≡ at + length (controllerText s k p)) × (now (out .exit) ≡ put (now (out .entry)) at (controllerText s k p)) ⌝ }
 {
     if !has_block(s, k) {
         return at;

@@ -23,7 +23,7 @@ use Rattle.keys.specs.Settings.{table}
 use Rattle.settings.specs.declared.Settings.{Settings}
 use Rattle.settings.specs.declared.names.Schedule.{Schedule}
 use Rattle.settings.specs.Names.{after, orbitOf, gapOf, rulesOf, waitsOf, slotOf, scheduleOf, timesOf}
-use Rattle.settings.specs.Ranges.{nowhere, rangeAt}
+use Rattle.settings.specs.support.Ranges.{nowhere, rangeAt}
 use Rattle.settings.specs.Relations.{relation, relations, firstFalse, below, absent, distinct, lowFits}
 use Rattle.settings.specs.Check.{checked}
 use Rattle.settings.proofs.Lines.{ranged}

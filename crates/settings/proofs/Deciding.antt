@@ -10,12 +10,12 @@ use lib.Seq.{drop-cons}
 use Rattle.answer.specs.Told.{DONE, TEXT, RANGE, RELATION}
 use Rattle.answer.proofs.Told.{faulty, faultless}
 use Rattle.text.specs.declared.Range.{Range}
-use Rattle.text.specs.Lines.{rangesOf, head, within, firstOut, taken, ill, out, readLine, all, readLines}
+use Rattle.text.specs.Lines.{rangesOf, lineHead, within, firstOut, taken, ill, out, readLine, all, readLines}
 use Rattle.text.proofs.Walk.{at-ill, at-out, at-value, at-end, out-here, out-later, out-none}
 use Rattle.keys.specs.Settings.{table}
 use Rattle.keys.specs.Keys.{keyAt}
 use Rattle.settings.specs.declared.Settings.{Settings}
-use Rattle.settings.specs.Ranges.{nowhere, rangeAt}
+use Rattle.settings.specs.support.Ranges.{nowhere, rangeAt}
 use Rattle.settings.specs.Relations.{relation}
 use Rattle.settings.specs.Check.{checked}
 use Rattle.settings.specs.Read.{readText, concluded, refused}
@@ -62,15 +62,15 @@ module _ (vs s : List ℕ) (at n : ℕ) (long : length vs ≡ 71) (inv : readLin
     known : n < length vs
     known = omega arith
 
-    pub ill-is : ill ≡ readLine (head (keyAt n)) r (drop at s) → readText s ≡ refused (TEXT (n + 1))
+    pub ill-is : ill ≡ readLine (lineHead (keyAt n)) r (drop at s) → readText s ≡ refused (TEXT (n + 1))
     unfolding readText
     ill-is e = ap concluded (at-ill table vs s at n noEntry inv here known (rw (entry-key n more, entry-range n, ← is) e))
 
-    pub out-is : out ≡ readLine (head (keyAt n)) r (drop at s) → readText s ≡ refused (RANGE (n + 1))
+    pub out-is : out ≡ readLine (lineHead (keyAt n)) r (drop at s) → readText s ≡ refused (RANGE (n + 1))
     unfolding readText
     out-is e = ap concluded (at-out table vs s at n noEntry inv here known (rw (entry-key n more, entry-range n, ← is) e))
 
-    pub value-is : (v next : ℕ) → taken v (drop next s) ≡ readLine (head (keyAt n)) r (drop at s)
+    pub value-is : (v next : ℕ) → taken v (drop next s) ≡ readLine (lineHead (keyAt n)) r (drop at s)
         → readLines table [] s ≡ readLines (drop (n + 1) table) (take (n + 1) (set vs n v)) (drop next s)
     value-is v next e = at-value table vs s at n noEntry inv here known v next (rw (entry-key n more, entry-range n, ← is) e)
 

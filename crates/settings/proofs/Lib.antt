@@ -4,3 +4,4 @@ mod Deciding
 pub mod RoundTrip
 pub mod Bounds
 pub mod Standard
+pub mod Named

@@ -8,7 +8,7 @@ use Rattle.text.specs.Lines.{Entry, rangesOf}
 use Rattle.keys.specs.Settings.{table}
 use Rattle.keys.specs.Keys.{keyAt}
 use Rattle.keys.proofs.Writing.{settings-key}
-use Rattle.settings.specs.Ranges.{nowhere, rangeAt}
+use Rattle.settings.specs.support.Ranges.{nowhere, rangeAt}
 
 -- past the last line
 abbrev pub noEntry : Entry

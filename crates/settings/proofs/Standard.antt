@@ -5,7 +5,7 @@ use lib.ListN.{length}
 use Rattle.answer.specs.Told.{DONE}
 use Rattle.laws.specs.Base.{allB}
 use Rattle.text.specs.Decimal.{decimal, decimalOf}
-use Rattle.text.specs.Lines.{head, row}
+use Rattle.text.specs.Lines.{lineHead, lineText}
 use Rattle.keys.specs.Settings.{table}
 use Rattle.settings.specs.Relations.{relation}
 use Rattle.settings.specs.Check.{checked}
@@ -17,5 +17,5 @@ unfolding checked relation standard table allB
 standard-checks = refl
 
 pub standard-length : length (textOf standard) ≡ 723
-unfolding textOf standard table row head decimal decimalOf
+unfolding textOf standard table lineText lineHead decimal decimalOf
 standard-length = refl

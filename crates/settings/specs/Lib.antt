@@ -1,6 +1,7 @@
 pub mod Names
-pub mod Ranges
 pub mod Relations
 pub mod Check
 pub mod Read
 pub mod Write
+pub mod Named
+pub mod support

@@ -6,7 +6,7 @@ use Rattle.answer.specs.Told.{Told, told, DONE, TEXT, RANGE, RELATION}
 use Rattle.text.specs.Lines.{Lines, all, textAt, rangeAt, readLines}
 use Rattle.keys.specs.Settings.{Setting, settings, table}
 use Rattle.settings.specs.declared.Settings.{Settings}
-use Rattle.settings.specs.declared.Reading.{Reading}
+use Rattle.settings.specs.declared.Read.{Read}
 use Rattle.settings.specs.Relations.{relation}
 
 unfoldable pub standardValues : List ℕ
@@ -22,7 +22,7 @@ pub record ReadOut : Type 0 where
   pub answer : Told
   pub settings : Settings
 
-abbrev pub readOut : Reading → ReadOut
+abbrev pub readOut : Read → ReadOut
 readOut r = record { answer = told (r .answer); settings = r .settings }
 
 -- a refused reading gives the standard values

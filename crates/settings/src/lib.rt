@@ -30,7 +30,7 @@ pub struct Settings {
 }
 
 // What a text was read as.
-pub struct Reading {
+pub struct Read {
     pub answer: Answer,
     pub settings: Settings,
 }
@@ -42,11 +42,11 @@ fn wide(x: u32) -> u64
 }
 
 // A refused reading gives the standard values.
-fn refusal(a: Answer) -> Reading
+fn refusal(a: Answer) -> Read
     ensures { λ r. ⌜ readOut r ≡ refused (told a) ⌝ }
 {
     let s = Settings::standard();
-    Reading {
+    Read {
         answer: a,
         settings: s,
     }
@@ -93,7 +93,7 @@ impl Settings {
     }
 
     // Any bytes at all. The first faulty line decides, then the tail, then the relations.
-    pub fn read(text: &[u8]) -> Reading
+    pub fn read(text: &[u8]) -> Read
         ensures { λ r. ⌜ readOut r ≡ readText (now (text .entry)) ⌝ }
     {
         let mut values = [0u32; 71];
@@ -123,7 +123,7 @@ impl Settings {
         if 0 < k {
             return refusal(Answer::Relation(k));
         }
-        Reading {
+        Read {
             answer: Answer::Done,
             settings: s,
         }

@@ -95,7 +95,7 @@ impl Rules {
 
 impl Settings {
     // The number of the first relation that fails, or 0.
-    pub fn first_relation(self) -> usize
+    pub(crate) fn first_relation(self) -> usize
         ensures { λ r. ⌜ r ≡ relation self ⌝ }
     {
         let orbit = self.orbit();

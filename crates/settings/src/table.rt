@@ -2,7 +2,7 @@
 use text::Range;
 ghost use mathlib.Core.Path.{_≡_};
 ghost use Prim.Native.Nat.{_<_, _≤_};
-ghost use Rattle.settings.specs.Ranges.{rangeAt};
+ghost use Rattle.settings.specs.support.Ranges.{rangeAt};
 ghost use Rattle.settings.specs.Read.{standardValues};
 
 const LOWS: [u32; 71] = [
@@ -262,7 +262,7 @@ const STANDARD: [u32; 71] = [
     0,
 ];
 
-pub fn range(n: usize) -> Range
+pub(crate) fn range(n: usize) -> Range
     requires { ⌜ n < 71 ⌝ }
     ensures { λ r. ⌜ (r ≡ rangeAt n) × (0 < r .digits) × (r .digits ≤ 8) ⌝ }
 {
@@ -273,7 +273,7 @@ pub fn range(n: usize) -> Range
     }
 }
 
-pub fn standard_values() -> [u32; 71]
+pub(crate) fn standard_values() -> [u32; 71]
     ensures { λ r. ⌜ r ≡ standardValues ⌝ }
 {
     STANDARD

@@ -10,7 +10,7 @@ use Rattle.settings.specs.declared.names.Schedule.{Schedule}
 use Rattle.settings.specs.declared.names.Waits.{Waits}
 use Rattle.status.specs.Class.{bad}
 use Rattle.states.specs.Moves.{whileRunning, moveOf, entryWait, movedOf}
-use Rattle.states.specs.Rest.{resting}
+use Rattle.states.specs.support.Rest.{resting}
 
 or-has : (P : Type 0) (a b : Bool) → (a ≡ true → P) → (b ≡ true → P) → a || b ≡ true → P
 or-has P true b p q e = p refl

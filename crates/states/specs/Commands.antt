@@ -32,7 +32,7 @@ abbrev pub takesResync : ℕ → Bool
 takesResync s = (leb 6 s && leb s 8) || (eqb s 10 || eqb s 18)
 
 -- whether the command is taken in state s, with a cycle or without
-unfoldable pub takes : ℕ → ℕ → Bool → Bool
+unfoldable pub takes : (command s : ℕ) (cycle : Bool) → Bool
 takes command s cycle =
     if (eqb command START) (eqb s 0)
     (if (eqb command STOP) (leb 1 s && leb s 18)
@@ -43,7 +43,7 @@ takes command s cycle =
     false)))))
 
 -- the state after a command that is taken: START to 1, STOP to 19, HARD to 12, RESYNC to 15, PANIC to 0; CALIBRATE stays
-unfoldable pub stateAfter : ℕ → ℕ → ℕ
+unfoldable pub stateAfter : (command s : ℕ) → ℕ
 stateAfter command s =
     if (eqb command START) 1
     (if (eqb command STOP) 19

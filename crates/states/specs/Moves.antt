@@ -13,11 +13,11 @@ abbrev pub goes : ℕ → Step
 goes s = record { state = s; code = 0 }
 
 -- at its number a state sends its code and is left; until then it stays
-abbrev pub timed : ℕ → ℕ → ℕ → ℕ → ℕ → Step
+abbrev pub timed : (number at from code to : ℕ) → Step
 timed number at from code to = if (eqb number at) (record { state = to; code = code }) (goes from)
 
 -- 2, its wait over: on disconnected, bad, error or out of sync to 18, else to 3 (controller 0) or 4
-abbrev pub afterResync : ℕ → ℕ → ℕ
+abbrev pub afterResync : (k class : ℕ) → ℕ
 afterResync k class = if (leb outOfSync class) 18 (if (eqb k 0) 3 4)
 
 -- 6, 7, 8: disconnected or bad to 9, out of sync to 10, error to 11, busy or none to 6, ready to 7, warning to 8
@@ -35,7 +35,7 @@ abbrev pub whileDisconnected : ℕ → ℕ
 whileDisconnected class = if (leb bad class) 9 6
 
 -- the move of controller k's state s at a crossing number, its merged class being class
-unfoldable pub moveOf : Schedule → ℕ → ℕ → ℕ → ℕ → Step
+unfoldable pub moveOf : (at : Schedule) (k number class s : ℕ) → Step
 moveOf at k number class s =
     if (eqb s 1) (timed number (at .resync) 1 5 2)
     (if (eqb s 2) (goes (afterResync k class))
@@ -66,7 +66,7 @@ entryWait w s =
     0))))
 
 -- at wait 0 the move happens; otherwise the wait falls by 1 at crossing number 0
-unfoldable pub movedOf : Schedule → Waits → ℕ → ℕ → ℕ → ℕ → ℕ → Moved
+unfoldable pub movedOf : (at : Schedule) (w : Waits) (k number class s wait : ℕ) → Moved
 movedOf at w k number class s wait =
     let step = moveOf at k number class s in
     if (eqb wait 0)

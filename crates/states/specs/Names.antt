@@ -4,12 +4,6 @@ use mathlib.Core.Bool.{Bool, _||_}
 use lib.Dec.{eqb}
 use Rattle.laws.specs.Base.{if}
 
-abbrev pub IDLE : ℕ
-IDLE = 0
-
-abbrev pub BUSY : ℕ
-BUSY = 6
-
 abbrev pub READY : ℕ
 READY = 7
 

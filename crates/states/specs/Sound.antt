@@ -10,7 +10,7 @@ abbrev pub waiting : ℕ → Bool
 waiting s = eqb s 2 || (eqb s 12 || (eqb s 14 || (eqb s 15 || eqb s 17)))
 
 -- states 0..19, state 3 in controller 0 only; wait 0..255, and 0 outside the states that wait
-unfoldable pub soundState : ℕ → ℕ → ℕ → Bool
+unfoldable pub soundState : (k s wait : ℕ) → Bool
 soundState k s wait = leb s 19 && (if (eqb s 3) (eqb k 0) true && (leb wait 255 && if (waiting s) true (eqb wait 0)))
 
 -- checked settings have waits of at most 255 orbits

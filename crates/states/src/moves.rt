@@ -3,16 +3,16 @@ use crate::Moved;
 use crate::Step;
 use settings::Schedule;
 use settings::Waits;
-use status::BAD;
-use status::ERROR;
-use status::OUT_OF_SYNC;
-use status::READY;
-use status::WARNING;
+use status::RANK_BAD;
+use status::RANK_ERROR;
+use status::RANK_OUT_OF_SYNC;
+use status::RANK_READY;
+use status::RANK_WARNING;
 ghost use mathlib.Core.Path.{_≡_};
 ghost use Prim.Native.Nat.{_-_};
 ghost use lib.Dec.{eqb};
 ghost use Rattle.laws.specs.Base.{if};
-ghost use Rattle.states.specs.Rest.{resting};
+ghost use Rattle.states.specs.support.Rest.{resting};
 ghost use Rattle.states.specs.Moves.{goes, timed, afterResync, whileRunning, whileDisconnected, moveOf, entryWait, movedOf, orbitCode};
 
 fn to(state: u8) -> Step
@@ -41,7 +41,7 @@ fn at_number(number: u32, at: u32, from: u8, code: u8, next: u8) -> Step
 fn after_resync(k: u32, class: u8) -> u8
     ensures { λ r. ⌜ r ≡ afterResync k class ⌝ }
 {
-    if OUT_OF_SYNC <= class {
+    if RANK_OUT_OF_SYNC <= class {
         return 18;
     }
     if k == 0 { 3 } else { 4 }
@@ -51,26 +51,26 @@ fn after_resync(k: u32, class: u8) -> u8
 fn while_running(class: u8) -> u8
     ensures { λ r. ⌜ r ≡ whileRunning class ⌝ }
 {
-    if BAD <= class {
+    if RANK_BAD <= class {
         return 9;
     }
-    if class == OUT_OF_SYNC {
+    if class == RANK_OUT_OF_SYNC {
         return 10;
     }
-    if class == ERROR {
+    if class == RANK_ERROR {
         return 11;
     }
-    if class == READY {
+    if class == RANK_READY {
         return 7;
     }
-    if class == WARNING { 8 } else { 6 }
+    if class == RANK_WARNING { 8 } else { 6 }
 }
 
 // Out of state 9, always through 6.
 fn while_disconnected(class: u8) -> u8
     ensures { λ r. ⌜ r ≡ whileDisconnected class ⌝ }
 {
-    if BAD <= class { 9 } else { 6 }
+    if RANK_BAD <= class { 9 } else { 6 }
 }
 
 // Whether a state stays as it is, whatever the number, while the class is the same.
@@ -82,7 +82,7 @@ pub fn rests(class: u8, state: u8) -> bool
         6 => while_running(class) == 6,
         7 => while_running(class) == 7,
         8 => while_running(class) == 8,
-        9 => BAD <= class,
+        9 => RANK_BAD <= class,
         10 => true,
         11 => true,
         18 => true,

@@ -22,7 +22,8 @@ use Rattle.status.specs.declared.Merger.{Merger}
 use Rattle.status.specs.Class.{bad, disconnected, emulator, classOf, counted}
 use Rattle.status.specs.Codes.{codeAt, Coded}
 use Rattle.status.specs.Merge.{member, vote, merged, classes}
-use Rattle.status.specs.Merger.{ownerOf, half, rankAt, mergerOf, rankBy, votedOf, voted}
+use Rattle.status.specs.OnePass.{OnePass}
+use Rattle.status.specs.support.Merger.{ownerOf, half, rankAt, mergerOf, rankBy, votedOf, voted}
 use Rattle.status.proofs.Turn.{half-most}
 use Rattle.laws.proofs.Highest.{highest-most, order-free}
 
@@ -118,14 +119,17 @@ module _ (s : Settings) (codes : List ℕ) (good : Coded codes) where
   collected k (suc n) h l =
       voted-at _ _ _ k (merge-long (mergerOf s) codes n) h ∙ rw (collected k n h (omega arith), voted-by k n l) (omega arith)
 
-  pub one-pass : voted (mergerOf s) codes 40 ≡ classes s codes
+  all-eight : voted (mergerOf s) codes 40 ≡ classes s codes
   unfolding classes merged highest
-  one-pass =
+  all-eight =
       ext-getD 0 (voted (mergerOf s) codes 40) (tabulate (merged s codes) 0 8)
       (merge-long (mergerOf s) codes 40 ∙ sym (length-tabulate (merged s codes) 0 8))
       (λ k l.
       let h : k < 8 = rw (merge-long (mergerOf s) codes 40) at l in
       rw (getD-tabulate (merged s codes) 0 8 k 0 h, zero-add) (collected k 40 h (omega arith) ∙ max-comm (vote s codes k 40) (highest (vote s codes k) 40)))
+
+pub one-pass : OnePass
+one-pass = all-eight
 
 pub merge-same : (s s' : Settings) (a b : List ℕ) (k : ℕ) → ((i : ℕ) → i < 41 → vote s a k i ≡ vote s' b k i) → merged s a k ≡ merged s' b k
 unfolding merged

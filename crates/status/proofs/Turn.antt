@@ -12,7 +12,7 @@ use Rattle.laws.proofs.Tests.{either}
 use Rattle.status.specs.declared.Merger.{Merger}
 use Rattle.status.specs.Class.{emulator}
 use Rattle.status.specs.Codes.{codeAt}
-use Rattle.status.specs.Merger.{half, rankBy, votedOf, voted}
+use Rattle.status.specs.support.Merger.{half, rankBy, votedOf, voted}
 
 -- the table's halves are of 16 places
 pub half-most : (i h : ℕ) → h ≡ half i → h ≤ 16

@@ -35,7 +35,7 @@ abbrev pub emulator : ℕ → Bool
 emulator i = leb 24 i && leb i 31
 
 -- the class of a code by its input: 0 to 31 partitions, 32 to 39 aTTS, 40 GTFE
-unfoldable pub classOf : ℕ → ℕ → ℕ
+unfoldable pub classOf : (i c : ℕ) → ℕ
 classOf i c =
     if (eqb c 0) disconnected
     (if (eqb c 15) disconnected

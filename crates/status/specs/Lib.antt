@@ -1,4 +1,5 @@
 pub mod Class
 pub mod Codes
 pub mod Merge
-pub mod Merger
+pub mod OnePass
+pub mod support

@@ -6,24 +6,24 @@ ghost use Prim.Native.Nat.{_+_, _<_, max};
 ghost use Rattle.laws.specs.Base.{tabulate};
 ghost use Rattle.status.specs.Class.{emulator, classOf, counted};
 ghost use Rattle.status.specs.Codes.{Coded};
-ghost use Rattle.status.specs.Merger.{ownerOf, half, rankAt, mergerOf, votedOf, voted};
+ghost use Rattle.status.specs.support.Merger.{ownerOf, half, rankAt, mergerOf, votedOf, voted};
 
 // The classes, numbered by rank.
-pub const NONE: u8 = 0;
+pub const RANK_NONE: u8 = 0;
 
-pub const READY: u8 = 1;
+pub const RANK_READY: u8 = 1;
 
-pub const WARNING: u8 = 2;
+pub const RANK_WARNING: u8 = 2;
 
-pub const BUSY: u8 = 3;
+pub const RANK_BUSY: u8 = 3;
 
-pub const OUT_OF_SYNC: u8 = 4;
+pub const RANK_OUT_OF_SYNC: u8 = 4;
 
-pub const ERROR: u8 = 5;
+pub const RANK_ERROR: u8 = 5;
 
-pub const BAD: u8 = 6;
+pub const RANK_BAD: u8 = 6;
 
-pub const DISCONNECTED: u8 = 7;
+pub const RANK_DISCONNECTED: u8 = 7;
 
 fn is_emulator(input: usize) -> bool
     ensures { λ r. ⌜ r ≡ emulator input ⌝ }
@@ -34,49 +34,53 @@ fn is_emulator(input: usize) -> bool
 fn emulated(input: usize) -> u8
     ensures { λ r. ⌜ r ≡ classOf input 11 ⌝ }
 {
-    if is_emulator(input) { BUSY } else { BAD }
+    if is_emulator(input) {
+        RANK_BUSY
+    } else {
+        RANK_BAD
+    }
 }
 
 // The class of a code, by the kind of its input: 0 to 31 partitions, 32 to 39 aTTS, 40 GTFE.
-pub fn class(input: usize, code: u8) -> u8
+pub(crate) fn class(input: usize, code: u8) -> u8
     ensures { λ r. ⌜ r ≡ classOf input code ⌝ }
 {
     if code == 0 {
-        return DISCONNECTED;
+        return RANK_DISCONNECTED;
     }
     if code == 15 {
-        return DISCONNECTED;
+        return RANK_DISCONNECTED;
     }
     if code == 1 {
-        return WARNING;
+        return RANK_WARNING;
     }
     if code == 2 {
-        return OUT_OF_SYNC;
+        return RANK_OUT_OF_SYNC;
     }
     if code == 4 {
-        return BUSY;
+        return RANK_BUSY;
     }
     if code == 8 {
-        return READY;
+        return RANK_READY;
     }
     if code == 12 {
-        return ERROR;
+        return RANK_ERROR;
     }
     if code == 11 {
         return emulated(input);
     }
-    BAD
+    RANK_BAD
 }
 
 // What a member of that class counts: nothing where the settings ignore it.
 fn counts(ignores: Ignores, class: u8) -> u8
     ensures { λ r. ⌜ r ≡ counted ignores class ⌝ }
 {
-    if ignores.disc && class == DISCONNECTED {
-        return NONE;
+    if ignores.disc && class == RANK_DISCONNECTED {
+        return RANK_NONE;
     }
-    if ignores.bad && class == BAD {
-        return NONE;
+    if ignores.bad && class == RANK_BAD {
+        return RANK_NONE;
     }
     class
 }

@@ -5,3 +5,4 @@ pub mod Rows
 pub mod OneLine
 pub mod Tables
 pub mod Walk
+pub mod Known

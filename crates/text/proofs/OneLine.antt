@@ -15,14 +15,14 @@ use Rattle.laws.proofs.Tests.{either}
 use Rattle.text.specs.declared.Range.{Range}
 use Rattle.text.specs.Bytes.{starts}
 use Rattle.text.specs.Number.{Parsed, value, none, number}
-use Rattle.text.specs.Lines.{row, taken, ill, out, within, ranged, readLine}
+use Rattle.text.specs.Lines.{lineText, taken, ill, out, within, ranged, readLine}
 use Rattle.text.proofs.Bytes.{starts-append, starts-is}
 use Rattle.text.proofs.Reading.{read-back, written}
 
 -- a line that was written is read
 pub line-back : (h : List ℕ) (r : Range) (v : ℕ) (t : List ℕ) → 0 < r .digits → r .high < 10 ^ r .digits → within r v ≡ true
-    → readLine h r (row h v ++ t) ≡ taken v t
-unfolding readLine row
+    → readLine h r (lineText h v ++ t) ≡ taken v t
+unfolding readLine lineText
 line-back h r v t some fits ok =
     let most = leb-true v (r .high) (both (leb (r .low) v) (leb v (r .high)) ok .1) in
     rw (append-assoc, starts-append, drop-append-seam, append-assoc, read-back v (r .digits) t some (omega arith), ok)
@@ -36,8 +36,8 @@ ranged-is r (value w u) v t e =
 ranged-is r none v t e = (cc, cc)
 
 -- a line that was read is what is written
-pub line-written : (h : List ℕ) (r : Range) (v : ℕ) (t u : List ℕ) → readLine h r t ≡ taken v u → (t ≡ row h v ++ u) × (within r v ≡ true)
-unfolding readLine row
+pub line-written : (h : List ℕ) (r : Range) (v : ℕ) (t u : List ℕ) → readLine h r t ≡ taken v u → (t ≡ lineText h v ++ u) × (within r v ≡ true)
+unfolding readLine lineText
 line-written h r v t u e =
     ⊎-elim
     (λ (s : starts h t ≡ true).

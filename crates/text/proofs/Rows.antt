@@ -7,16 +7,16 @@ use native.Mathlib.Omega.{arith}
 use lib.ListN.{length, set, length-append}
 use Rattle.text.specs.Bytes.{put}
 use Rattle.text.specs.Decimal.{decimal}
-use Rattle.text.specs.Lines.{row}
+use Rattle.text.specs.Lines.{lineText}
 use Rattle.text.proofs.Bytes.{put-append, put-cons, put-nil, length-put}
 
-pub row-length : (h : List ℕ) (n : ℕ) → length (row h n) ≡ length h + length (decimal n) + 1
-unfolding row
+pub row-length : (h : List ℕ) (n : ℕ) → length (lineText h n) ≡ length h + length (decimal n) + 1
+unfolding lineText
 row-length h n = simp length-append (omega arith)
 
-pub put-row : (d : List ℕ) (at : ℕ) (h : List ℕ) (n : ℕ) → at + length (row h n) ≤ length d
-    → put d at (row h n) ≡ set (put (put d at h) (at + length h) (decimal n)) (at + length h + length (decimal n)) 10
-unfolding row
+pub put-row : (d : List ℕ) (at : ℕ) (h : List ℕ) (n : ℕ) → at + length (lineText h n) ≤ length d
+    → put d at (lineText h n) ≡ set (put (put d at h) (at + length h) (decimal n)) (at + length h + length (decimal n)) 10
+unfolding lineText
 put-row d at h n room =
     let fits : at + (length h + length (decimal n) + 1) ≤ length d = omega (arith, row-length h n) in
     let d₁ : List ℕ = put d at h in

@@ -13,7 +13,7 @@ use Rattle.laws.specs.Base.{allB}
 use Rattle.laws.proofs.Bools.{both}
 use Rattle.laws.proofs.Tests.{either}
 use Rattle.text.specs.declared.Range.{Range}
-use Rattle.text.specs.Lines.{Entry, keysOf, rangesOf, head, row, linesText, Taken, taken, ill, out, within, readLine, all, andThen, readLines, firstOut, sensible}
+use Rattle.text.specs.Lines.{Entry, keysOf, rangesOf, lineHead, lineText, linesText, LineRead, taken, ill, out, within, readLine, all, andThen, readLines, firstOut, sensible}
 use Rattle.text.proofs.OneLine.{line-back, line-written}
 
 -- the text of a table's values is read back
@@ -29,7 +29,7 @@ lines-back (l ∷ ls) (v ∷ vs) acc t n pos good ok len =
     (λ (w : within r v ≡ true).
     let g = both (ltb 0 (r .digits) && ltb (r .high) (10 ^ r .digits)) (sensible (rangesOf ls)) good in
     let d = both (ltb 0 (r .digits)) (ltb (r .high) (10 ^ r .digits)) (g .0) in
-    rw (append-assoc, line-back (head (l .key)) r v (linesText (keysOf ls) vs ++ t) (ltb-true 0 (r .digits) (d .0)) (ltb-true (r .high) (10 ^ r .digits) (d .1)) w)
+    rw (append-assoc, line-back (lineHead (l .key)) r v (linesText (keysOf ls) vs ++ t) (ltb-true 0 (r .digits) (d .0)) (ltb-true (r .high) (10 ^ r .digits) (d .1)) w)
     (lines-back ls vs (acc ++ (v ∷ [])) t (suc n) (omega arith) (g .1) (rw w at ok) (omega arith) ∙ ap (λ (x : List ℕ). all x t) (append-assoc acc (v ∷ []) vs)))
     (λ (w : within r v ≡ false). absurd (let z : n ≡ 0 = rw w at ok in omega arith))
     (either (within r v))
@@ -42,11 +42,11 @@ pub record Read (ls : List Entry) (acc t ws r : List ℕ) (n : ℕ) : Type 0 whe
   pub long : length vs ≡ length ls
   pub inside : firstOut (rangesOf ls) n vs ≡ 0
 
-one-line : (l : Entry) (ls : List Entry) (acc t ws r : List ℕ) (n v : ℕ) (u : List ℕ) → readLine (head (l .key)) (l .range) t ≡ taken v u
+one-line : (l : Entry) (ls : List Entry) (acc t ws r : List ℕ) (n v : ℕ) (u : List ℕ) → readLine (lineHead (l .key)) (l .range) t ≡ taken v u
     → Read ls (acc ++ (v ∷ [])) u ws r (suc n) → Read (l ∷ ls) acc t ws r n
 one-line l ls acc t ws r n v u is rest =
-    let w = line-written (head (l .key)) (l .range) v t u is in
-    let first : List ℕ = row (head (l .key)) v in
+    let w = line-written (lineHead (l .key)) (l .range) v t u is in
+    let first : List ℕ = lineText (lineHead (l .key)) v in
     record {
       vs = v ∷ rest .vs;
       are = rest .are ∙ append-assoc acc (v ∷ []) (rest .vs);
@@ -57,9 +57,9 @@ one-line l ls acc t ws r n v u is rest =
 
 pub lines-written : (ls : List Entry) (acc t ws r : List ℕ) (n : ℕ) → readLines ls acc t ≡ all ws r → Read ls acc t ws r n
 lines-written [] acc t ws r n e = record { vs = []; are = cc (append-nil acc); text = cc; long = refl; inside = refl }
-lines-written (l ∷ ls) acc t ws r n e = go (readLine (head (l .key)) (l .range) t) refl e (λ v u. lines-written ls (acc ++ (v ∷ [])) u ws r (suc n))
+lines-written (l ∷ ls) acc t ws r n e = go (readLine (lineHead (l .key)) (l .range) t) refl e (λ v u. lines-written ls (acc ++ (v ∷ [])) u ws r (suc n))
   where
-    go : (k : Taken) → readLine (head (l .key)) (l .range) t ≡ k → andThen k (suc (length acc)) (λ v u. readLines ls (acc ++ (v ∷ [])) u) ≡ all ws r
+    go : (k : LineRead) → readLine (lineHead (l .key)) (l .range) t ≡ k → andThen k (suc (length acc)) (λ v u. readLines ls (acc ++ (v ∷ [])) u) ≡ all ws r
         → ((v : ℕ) (u : List ℕ) → readLines ls (acc ++ (v ∷ [])) u ≡ all ws r → Read ls (acc ++ (v ∷ [])) u ws r (suc n)) → Read (l ∷ ls) acc t ws r n
     go (taken v u) is e on = one-line l ls acc t ws r n v u is (on v u e)
     go ill is e on = absurd (let z : _≡_ {A = ℕ} 0 1 = cc in omega arith)

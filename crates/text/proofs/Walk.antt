@@ -11,7 +11,7 @@ use lib.ListN.{length, drop, take, set, getD, length-append, drop-of-length-le}
 use lib.Seq.{drop-cons, length-take-le, take-suc-set, take-all}
 use Rattle.text.specs.declared.Range.{Range}
 use Rattle.text.specs.Bytes.{put}
-use Rattle.text.specs.Lines.{Entry, head, row, linesText, taken, ill, out, within, readLine, all, textAt, rangeAt, readLines, firstOut}
+use Rattle.text.specs.Lines.{Entry, lineHead, lineText, linesText, taken, ill, out, within, readLine, all, textAt, rangeAt, readLines, firstOut}
 use Rattle.text.proofs.Bytes.{put-append}
 
 -- ---- reading
@@ -21,13 +21,13 @@ module _ (ls : List Entry) (vs s : List ℕ) (at n : ℕ) (d : Entry) (inv : rea
   counted : suc (length (take n vs)) ≡ n + 1
   counted = omega (arith, length-take-le n vs (omega arith))
 
-  pub at-ill : ill ≡ readLine (head (getD ls n d .key)) (getD ls n d .range) (drop at s) → readLines ls [] s ≡ textAt (n + 1)
+  pub at-ill : ill ≡ readLine (lineHead (getD ls n d .key)) (getD ls n d .range) (drop at s) → readLines ls [] s ≡ textAt (n + 1)
   at-ill e = inv ∙ rw (drop-cons ls n d more, ← e, counted)
 
-  pub at-out : out ≡ readLine (head (getD ls n d .key)) (getD ls n d .range) (drop at s) → readLines ls [] s ≡ rangeAt (n + 1)
+  pub at-out : out ≡ readLine (lineHead (getD ls n d .key)) (getD ls n d .range) (drop at s) → readLines ls [] s ≡ rangeAt (n + 1)
   at-out e = inv ∙ rw (drop-cons ls n d more, ← e, counted)
 
-  pub at-value : (v next : ℕ) → taken v (drop next s) ≡ readLine (head (getD ls n d .key)) (getD ls n d .range) (drop at s)
+  pub at-value : (v next : ℕ) → taken v (drop next s) ≡ readLine (lineHead (getD ls n d .key)) (getD ls n d .range) (drop at s)
       → readLines ls [] s ≡ readLines (drop (n + 1) ls) (take (n + 1) (set vs n v)) (drop next s)
   at-value v next e = inv ∙ rw (drop-cons ls n d more, ← e, add-one, take-suc-set vs n v known)
 
@@ -38,14 +38,14 @@ at-end ls vs s at n inv done long = inv ∙ rw (drop-of-length-le ls done, take-
 -- ---- writing
 
 module _ (ks : List (List ℕ)) (vs : List ℕ) (n : ℕ) (d : List ℕ) (more : n < length ks) (known : n < length vs) where
-  text-more : linesText (drop n ks) (drop n vs) ≡ row (head (getD ks n d)) (getD vs n 0) ++ linesText (drop (n + 1) ks) (drop (n + 1) vs)
+  text-more : linesText (drop n ks) (drop n vs) ≡ lineText (lineHead (getD ks n d)) (getD vs n 0) ++ linesText (drop (n + 1) ks) (drop (n + 1) vs)
   text-more = rw (drop-cons ks n d more, drop-cons vs n 0 known, add-one)
 
-  pub length-more : length (linesText (drop n ks) (drop n vs)) ≡ length (row (head (getD ks n d)) (getD vs n 0)) + length (linesText (drop (n + 1) ks) (drop (n + 1) vs))
+  pub length-more : length (linesText (drop n ks) (drop n vs)) ≡ length (lineText (lineHead (getD ks n d)) (getD vs n 0)) + length (linesText (drop (n + 1) ks) (drop (n + 1) vs))
   length-more = rw (text-more, length-append)
 
-  pub put-more : (o : List ℕ) (at : ℕ) → at + length (row (head (getD ks n d)) (getD vs n 0)) ≤ length o
-      → put o at (linesText (drop n ks) (drop n vs)) ≡ put (put o at (row (head (getD ks n d)) (getD vs n 0))) (at + length (row (head (getD ks n d)) (getD vs n 0))) (linesText (drop (n + 1) ks) (drop (n + 1) vs))
+  pub put-more : (o : List ℕ) (at : ℕ) → at + length (lineText (lineHead (getD ks n d)) (getD vs n 0)) ≤ length o
+      → put o at (linesText (drop n ks) (drop n vs)) ≡ put (put o at (lineText (lineHead (getD ks n d)) (getD vs n 0))) (at + length (lineText (lineHead (getD ks n d)) (getD vs n 0))) (linesText (drop (n + 1) ks) (drop (n + 1) vs))
   put-more o at room = ap (put o at) text-more ∙ put-append o at _ _ room
 
 text-none : (ks : List (List ℕ)) → linesText ks [] ≡ []
@@ -59,7 +59,7 @@ text-end ks vs n done = rw (drop-of-length-le vs done) (text-none (drop n ks))
 pub text-within : (ks more : List (List ℕ)) (vs : List ℕ) → length vs ≤ length ks → linesText (ks ++ more) vs ≡ linesText ks vs
 text-within ks more [] h = text-none (ks ++ more) ∙ sym (text-none ks)
 text-within [] more (v ∷ vs) h = absurd (not-suc-le-zero h)
-text-within (k ∷ ks) more (v ∷ vs) h = ap (λ (t : List ℕ). row (head k) v ++ t) (text-within ks more vs (le-of-suc-le-suc h))
+text-within (k ∷ ks) more (v ∷ vs) h = ap (λ (t : List ℕ). lineText (lineHead k) v ++ t) (text-within ks more vs (le-of-suc-le-suc h))
 
 -- ---- ranges
 

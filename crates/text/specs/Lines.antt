@@ -13,18 +13,18 @@ use Rattle.text.specs.Number.{Parsed, value, none, number}
 -- ---- writing
 
 -- a key with its `=`
-unfoldable pub head : List ℕ → List ℕ
-head key = key ++ (61 ∷ [])
+unfoldable pub lineHead : List ℕ → List ℕ
+lineHead key = key ++ (61 ∷ [])
 
 -- a line: what stands up to the `=`, the number, the newline
-unfoldable pub row : List ℕ → ℕ → List ℕ
-row h v = h ++ (decimal v ++ (10 ∷ []))
+unfoldable pub lineText : List ℕ → ℕ → List ℕ
+lineText h v = h ++ (decimal v ++ (10 ∷ []))
 
 -- the lines of some keys with their values
 abbrev pub linesText : List (List ℕ) → List ℕ → List ℕ
 linesText [] vs = []
 linesText (k ∷ ks) [] = []
-linesText (k ∷ ks) (v ∷ vs) = row (head k) v ++ linesText ks vs
+linesText (k ∷ ks) (v ∷ vs) = lineText (lineHead k) v ++ linesText ks vs
 
 -- ---- reading
 
@@ -43,17 +43,17 @@ abbrev pub within : Range → ℕ → Bool
 within r v = leb (r .low) v && leb v (r .high)
 
 -- a value and what follows its line; TEXT; RANGE
-pub data Taken : Type 0 where
-  taken : ℕ → List ℕ → Taken
-  ill : Taken
-  out : Taken
+pub data LineRead : Type 0 where
+  taken : ℕ → List ℕ → LineRead
+  ill : LineRead
+  out : LineRead
 
-abbrev pub ranged : Range → Parsed → Taken
+abbrev pub ranged : Range → Parsed → LineRead
 ranged r (value v t) = if (within r v) (taken v t) out
 ranged r none = ill
 
 -- the expected key and `=`, a well-formed number, the newline; in a line TEXT before RANGE
-unfoldable pub readLine : List ℕ → Range → List ℕ → Taken
+unfoldable pub readLine : List ℕ → Range → List ℕ → LineRead
 readLine h r t = if (starts h t) (ranged r (number (r .digits) (drop (length h) t))) ill
 
 -- all values and what follows the last line; or the number of the first faulty line
@@ -62,7 +62,7 @@ pub data Lines : Type 0 where
   textAt : ℕ → Lines
   rangeAt : ℕ → Lines
 
-abbrev pub andThen : Taken → ℕ → (ℕ → List ℕ → Lines) → Lines
+abbrev pub andThen : LineRead → ℕ → (ℕ → List ℕ → Lines) → Lines
 andThen (taken v t) n k = k v t
 andThen ill n k = textAt n
 andThen out n k = rangeAt n
@@ -71,7 +71,7 @@ andThen out n k = rangeAt n
 abbrev pub readLines : List Entry → List ℕ → List ℕ → Lines
 readLines [] vs t = all vs t
 readLines (l ∷ ls) vs t =
-    andThen (readLine (head (l .key)) (l .range) t) (suc (length vs)) (λ v r. readLines ls (vs ++ (v ∷ [])) r)
+    andThen (readLine (lineHead (l .key)) (l .range) t) (suc (length vs)) (λ v r. readLines ls (vs ++ (v ∷ [])) r)
 
 -- ---- values on their own
 

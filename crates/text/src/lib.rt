@@ -5,8 +5,8 @@ ghost use lib.ListN.{length, drop};
 ghost use Rattle.text.specs.Bytes.{put, starts};
 ghost use Rattle.text.specs.Decimal.{decimal};
 ghost use Rattle.text.specs.Number.{digitOf};
-ghost use Rattle.text.specs.Lines.{row, within};
-ghost use Rattle.text.specs.Seen.{NumberIs, LineIs};
+ghost use Rattle.text.specs.Lines.{lineText, within};
+ghost use Rattle.text.specs.support.Seen.{NumberIs, LineIs};
 
 // What reading a number finds.
 pub enum Number {
@@ -71,7 +71,7 @@ fn digit(b: u8) -> u32
 }
 
 // The number at a place, of at most `digits` digits, ended by a newline.
-pub fn read_number(text: &[u8], at: usize, digits: usize) -> Number
+fn read_number(text: &[u8], at: usize, digits: usize) -> Number
     requires { ⌜ (at ≤ length (now text)) × (0 < digits) × (digits ≤ 8) ⌝ }
     ensures { λ r. ⌜ NumberIs (now (text .entry)) at digits r ⌝ }
 {
@@ -155,7 +155,7 @@ pub fn put_bytes(out: &mut [u8], at: usize, s: &[u8]) -> usize
 }
 
 // Lays a number's digits into the buffer, from the last to the first, and answers the place after them.
-pub fn put_number(out: &mut [u8], at: usize, n: u64) -> usize
+fn put_number(out: &mut [u8], at: usize, n: u64) -> usize
     requires { ⌜ at + length (decimal n) ≤ length (now out) ⌝ }
     ensures { λ r. ⌜ (r ≡ at + length (decimal n)) × (now (out .exit) ≡ put (now (out .entry)) at (decimal n)) ⌝ }
 {
@@ -174,8 +174,8 @@ pub fn put_number(out: &mut [u8], at: usize, n: u64) -> usize
 
 // Lays a line into the buffer: `head`, a key with its `=`, the number and a newline. Answers the place after it.
 pub fn put_line(out: &mut [u8], at: usize, head: &[u8], n: u64) -> usize
-    requires { ⌜ at + length (row (now head) n) ≤ length (now out) ⌝ }
-    ensures { λ r. ⌜ (r ≡ at + length (row (now (head .entry)) n)) × (now (out .exit) ≡ put (now (out .entry)) at (row (now (head .entry)) n)) ⌝ }
+    requires { ⌜ at + length (lineText (now head) n) ≤ length (now out) ⌝ }
+    ensures { λ r. ⌜ (r ≡ at + length (lineText (now (head .entry)) n)) × (now (out .exit) ≡ put (now (out .entry)) at (lineText (now (head .entry)) n)) ⌝ }
 {
     let a = put_bytes(out, at, head);
     let b = put_number(out, a, n);

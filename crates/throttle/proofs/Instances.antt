@@ -38,7 +38,7 @@ allows-told ws n ms t warn r h = rw (tells-count ws n ms t (r .period - 1) (omeg
 
 -- no period is longer than the ring
 pub record Near (r : Rules) : Type 0 where
-  pub one : r .spacing + 1 ≤ 2047
+  pub one : spacingRule r .period ≤ 2047
   pub two : r .second .period ≤ 2047
   pub three : r .third .period ≤ 2047
   pub four : r .fourth .period ≤ 2047

@@ -14,6 +14,7 @@ use lib.Seq.{getD-set-same, getD-set-other}
 use borrow.Author.Tests.{lt-ltb, le-ltb}
 use Rattle.laws.specs.Base.{if}
 use Rattle.throttle.specs.Marks.{bitAt, markAt, marked, passed, markBack, among}
+use Rattle.throttle.specs.Ring.{Marking}
 use Rattle.throttle.proofs.Bits.{bit-put, bit-other}
 
 bit-le : (w k : ℕ) → bitAt w k ≤ 1
@@ -95,3 +96,6 @@ module _ (ws : List ℕ) (l : length ws ≡ 32) (x : ℕ) (b : x < 2) (n : ℕ) 
   unfolding among
   passed-among zero h = rw passed-new (omega arith)
   passed-among (suc k) h = rw (passed-among k (omega arith), ← add-one k, passed-old k (omega arith)) (omega arith)
+
+pub marking : Marking
+marking ws n x l b = record { newest = passed-new ws l x b n; older = passed-old ws l x b n }

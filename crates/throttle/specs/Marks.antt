@@ -10,7 +10,7 @@ unfoldable pub bitAt : ℕ → ℕ → ℕ
 bitAt w k = w / 2 ^ k % 2
 
 -- w with x for its bit k
-unfoldable pub putBit : ℕ → ℕ → ℕ → ℕ
+unfoldable pub putBit : (w k x : ℕ) → ℕ
 putBit w k x = (w / 2 ^ k / 2 * 2 + x) * 2 ^ k + w % 2 ^ k
 
 -- the mark of crossing c
@@ -18,15 +18,15 @@ unfoldable pub markAt : List ℕ → ℕ → ℕ
 markAt ws c = bitAt (getD ws (c / 64 % 32) 0) (c % 64)
 
 -- the ring with x for crossing c
-unfoldable pub marked : List ℕ → ℕ → ℕ → List ℕ
+unfoldable pub marked : (ws : List ℕ) (c x : ℕ) → List ℕ
 marked ws c x = set ws (c / 64 % 32) (putBit (getD ws (c / 64 % 32) 0) (c % 64) x)
 
 -- the ring after crossing c, the first being 0, whose mark is x
-unfoldable pub passed : List ℕ → ℕ → ℕ → List ℕ
+unfoldable pub passed : (ws : List ℕ) (c x : ℕ) → List ℕ
 passed ws c x = marked (marked ws c x) (c + 1) 0
 
 -- after n crossings, the mark of the one that has d others after it; none before crossing 0
-unfoldable pub markBack : List ℕ → ℕ → ℕ → ℕ
+unfoldable pub markBack : (ws : List ℕ) (n d : ℕ) → ℕ
 markBack ws n d = if (ltb d n) (markAt ws (n - 1 - d)) 0
 
 -- after n crossings, how many of the last k are marked

@@ -20,11 +20,11 @@ abbrev pub limitOf : Rule → Bool → ℕ
 limitOf r warn = if warn (r .low) (r .norm)
 
 -- after n crossings: the triggers of the period - 1 crossings before, plus this one, do not exceed the limit
-unfoldable pub allows : List ℕ → ℕ → Bool → Rule → Bool
+unfoldable pub allows : (ws : List ℕ) (n : ℕ) (warn : Bool) (r : Rule) → Bool
 allows ws n warn r = leb (among ws n (r .period - 1) + 1) (limitOf r warn)
 
 -- a trigger is free: not refused in WARN by warn_blocks, and not by any of the four rules
-unfoldable pub free : Rules → Bool → List ℕ → ℕ → Bool → Bool
+unfoldable pub free : (r : Rules) (blocks : Bool) (ws : List ℕ) (n : ℕ) (warn : Bool) → Bool
 free r blocks ws n warn = not (warn && blocks) && allB (allows ws n warn) (rulesList r)
 
 -- what of checked settings the arithmetic needs

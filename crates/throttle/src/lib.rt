@@ -3,10 +3,9 @@
 use settings::Rule;
 use settings::Rules;
 ghost use mathlib.Core.Path.{_≡_};
-ghost use mathlib.Core.Bool.{_&&_};
-ghost use Prim.Native.Nat.{_+_, _<_, _≤_, _^_, min};
+ghost use Prim.Native.Nat.{_+_, _<_, _≤_, _^_};
 ghost use lib.Count.{onesIn};
-ghost use Rattle.throttle.specs.Marks.{bitAt, putBit, markAt, marked, passed, markBack, among};
+ghost use Rattle.throttle.specs.Marks.{bitAt, putBit, markAt, marked, passed, among};
 ghost use Rattle.throttle.specs.Sound.{soundMarks};
 ghost use Rattle.throttle.specs.Rules.{limitOf, allows, Sensible, free};
 
@@ -38,12 +37,6 @@ fn low_ones(w: u64, k: u64) -> u64
     u64::count_ones(w) as u64
 }
 
-fn least(a: u64, b: u64) -> u64
-    ensures { λ r. ⌜ r ≡ min a b ⌝ }
-{
-    if a < b { a } else { b }
-}
-
 // The mark of crossing c: 1 where it carried a trigger.
 fn mark(marks: &[u64; 32], c: u64) -> u64
     ensures { λ r. ⌜ r ≡ markAt (now (marks .entry)) c ⌝ }
@@ -70,25 +63,18 @@ pub fn pass(marks: &mut [u64; 32], c: u64, x: u64)
     put_mark(marks, c + 1, 0);
 }
 
-// After n crossings, the mark of the one that has d others after it.
-pub fn back(marks: &[u64; 32], n: u64, d: u64) -> u64
-    ensures { λ r. ⌜ r ≡ markBack (now (marks .entry)) n d ⌝ }
-{
-    if d < n { mark(marks, n - 1 - d) } else { 0 }
-}
-
 // After n crossings, how many of the last k are marked. It goes by words, from the newest.
-pub fn count(marks: &[u64; 32], n: u64, k: u64) -> u64
+fn count(marks: &[u64; 32], n: u64, k: u64) -> u64
     ensures { λ r. ⌜ r ≡ among (now (marks .entry)) n k ⌝ }
 {
-    let mut left = least(k, n);
+    let mut left = plain::least(k, n);
     let mut end = n;
     let mut sum: u64 = 0;
     while 0 < left {
         let last = end - 1;
         let i = (last / 64 % 32) as usize;
         let used = last % 64 + 1;
-        let taken = least(left, used);
+        let taken = plain::least(left, used);
         let w = marks[i];
         sum += low_ones(w >> (used - taken), taken);
         end -= taken;
@@ -102,7 +88,7 @@ pub fn is_sound(marks: &[u64; 32], n: u64) -> bool
     requires { ⌜ n < 2 ^ 63 ⌝ }
     ensures { λ r. ⌜ r ≡ soundMarks n (now (marks .entry)) ⌝ }
 {
-    let mut left = 2048 - least(n, 2047);
+    let mut left = 2048 - plain::least(n, 2047);
     let mut c = n;
     while 0 < left {
         if mark(marks, c) != 0 {
@@ -129,18 +115,12 @@ fn within(marks: &[u64; 32], n: u64, warn: bool, rule: Rule) -> bool
     count(marks, n, (rule.period - 1) as u64) + 1 <= most as u64
 }
 
-fn both(a: bool, b: bool) -> bool
-    ensures { λ r. ⌜ r ≡ (a && b) ⌝ }
-{
-    a && b
-}
-
 // Whether a trigger is free after n crossings, by the low limits under warning. The first rule that refuses decides.
 pub fn free(marks: &[u64; 32], rules: Rules, blocks: bool, n: u64, warn: bool) -> bool
     requires { ⌜ Sensible rules ⌝ }
     ensures { λ r. ⌜ r ≡ free rules blocks (now (marks .entry)) n warn ⌝ }
 {
-    if both(warn, blocks) {
+    if plain::both(warn, blocks) {
         return false;
     }
     let spacing = Rule {

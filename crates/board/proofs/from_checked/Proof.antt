@@ -14,12 +14,12 @@ fresh-requires c κs =
     let s = c .before .before in
     rw (c .before .slots-of .ensures) (slot-room (s .args .s) (s .pre))
 
-fresh-ptc-requires : tie.Need-fresh-ptc-requires
-fresh-ptc-requires c κs = search needs
+fresh-requires-2 : tie.Need-fresh-requires-2
+fresh-requires-2 c κs = search needs
 
 returns : tie.Need-returns
 unfolding freshBoard
-returns c = rw (c .fresh-ptc .ensures, c .before .fresh .ensures, c .before .before .before .slots-of .ensures)
+returns c = rw (c .fresh2 .ensures, c .before .fresh .ensures, c .before .before .before .slots-of .ensures)
 
 pub from-checked-spec : {M : Type 1} → statement M
-from-checked-spec = tie.close (tie.spec slots-of-requires fresh-requires fresh-ptc-requires returns)
+from-checked-spec = tie.close (tie.spec slots-of-requires fresh-requires fresh-requires-2 returns)

@@ -1,7 +1,6 @@
 -- `clock::is_error` meets its contract: two tests, joined.
 -- Each way is read from its branch.
 use borrow.Author.Needs.{needs}
-use Rattle.laws.proofs.Tests.{tests}
 use Rattle.clock.proofs.is_error.Statement.{statement}
 use Rattle.clock.proofs.is_error.Tie as tie
 

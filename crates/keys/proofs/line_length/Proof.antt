@@ -6,7 +6,7 @@ use borrow.Author.Needs.{needs}
 use lib.Dec.{lit<}
 use lib.ListN.{length}
 use Rattle.text.specs.Decimal.{decimal}
-use Rattle.text.specs.Lines.{head}
+use Rattle.text.specs.Lines.{lineHead}
 use Rattle.text.proofs.Decimal.{digits-within}
 use Rattle.text.proofs.Rows.{row-length}
 use Rattle.keys.specs.Keys.{keyAt}
@@ -34,7 +34,7 @@ add-result-2 c = omega (arith, short (c .before .before .before))
 returns : tie.Need-returns
 returns c =
     let b = c .before .before .before in
-    omega (arith, short b, row-length (head (keyAt (b .args .n))) (b .args .v))
+    omega (arith, short b, row-length (lineHead (keyAt (b .args .n))) (b .args .v))
 
 pub line-length-spec : {M : Type 1} → statement M
 line-length-spec =

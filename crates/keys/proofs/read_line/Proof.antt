@@ -4,8 +4,8 @@ use mathlib.Core.Path.{subst}
 use mathlib.Core.List.{List}
 use Prim.Native.Nat.{ℕ}
 use borrow.Author.Needs.{needs}
-use Rattle.text.specs.Lines.{head}
-use Rattle.text.specs.Seen.{LineIs}
+use Rattle.text.specs.Lines.{lineHead}
+use Rattle.text.specs.support.Seen.{LineIs}
 use Rattle.keys.specs.Keys.{keys}
 use Rattle.keys.proofs.read_line.Statement.{statement}
 use Rattle.keys.proofs.read_line.Tie as tie
@@ -26,7 +26,7 @@ read-line-requires : tie.Need-read-line-requires
 read-line-requires c κs = search needs
 
 returns : tie.Need-returns
-unfolding keys head
+unfolding keys lineHead
 returns c =
     let s = c .before .before .before in
     let a = s .before .before .args in

@@ -3,7 +3,7 @@
 use mathlib.Core.Path.{_∙_}
 use native.Mathlib.Nat.{zero-add}
 use borrow.Author.Needs.{needs}
-use Rattle.text.specs.Lines.{head}
+use Rattle.text.specs.Lines.{lineHead}
 use Rattle.keys.specs.Keys.{keys}
 use Rattle.keys.proofs.Places.{start-at}
 use Rattle.keys.proofs.start.Statement.{statement}
@@ -16,7 +16,7 @@ array-read-result : tie.Need-array-read-result
 array-read-result c = search needs
 
 returns : tie.Need-returns
-unfolding keys head
+unfolding keys lineHead
 returns c = start-at keys 0 (c .args .n) (c .pre) ∙ zero-add _
 
 pub start-spec : {M : Type 1} → statement M

@@ -8,7 +8,7 @@ use lib.ListN.{length}
 use Rattle.laws.proofs.Tests.{mapped-long}
 use Rattle.text.specs.Bytes.{put}
 use Rattle.text.proofs.Bytes.{put-nil}
-use Rattle.board.specs.Command.{freshPtc}
+use Rattle.ptc.specs.Fresh.{freshPtc}
 use Rattle.report.proofs.Laws.{Rest, rest-longer, rest-laid, rest-none, text-longer, text-laid}
 use Rattle.report.proofs.put_text.Statement.{statement}
 use Rattle.report.proofs.put_text.Tie as tie

@@ -6,7 +6,7 @@ use native.Mathlib.Omega.{arith}
 use borrow.Author.Needs.{needs}
 use lib.ListN.{length}
 use Rattle.laws.proofs.Tests.{mapped-long}
-use Rattle.board.specs.Command.{freshPtc}
+use Rattle.ptc.specs.Fresh.{freshPtc}
 use Rattle.report.specs.Report.{reportText}
 use Rattle.report.proofs.Laws.{Rest, rest-longer, rest-none, text-longer}
 use Rattle.report.proofs.text_length.Statement.{statement}

@@ -4,7 +4,7 @@ use mathlib.Core.Path.{_≡_}
 use Prim.Native.Nat.{ℕ, _+_, _<_, _≤_}
 use native.Mathlib.Omega.{arith}
 use borrow.Author.Tests.{le-leb, lt-leb}
-use Rattle.status.specs.Merger.{half}
+use Rattle.status.specs.support.Merger.{half}
 use Rattle.status.proofs.half_of.Statement.{statement}
 use Rattle.status.proofs.half_of.Tie as tie
 

@@ -2,7 +2,7 @@
 -- Each way is the definition's test, read from the branch.
 use borrow.Author.Needs.{needs}
 use Rattle.laws.proofs.Tests.{tests}
-use Rattle.status.specs.Merger.{ownerOf}
+use Rattle.status.specs.support.Merger.{ownerOf}
 use Rattle.status.proofs.owner.Statement.{statement}
 use Rattle.status.proofs.owner.Tie as tie
 

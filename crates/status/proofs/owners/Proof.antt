@@ -7,7 +7,7 @@ use borrow.Author.Needs.{needs}
 use lib.ListN.{length}
 use Rattle.laws.specs.Base.{tabulate}
 use Rattle.laws.proofs.Over.{over, fill-turn, fill-done}
-use Rattle.status.specs.Merger.{ownerOf}
+use Rattle.status.specs.support.Merger.{ownerOf}
 use Rattle.status.proofs.owners.Statement.{statement}
 use Rattle.status.proofs.owners.Tie as tie
 

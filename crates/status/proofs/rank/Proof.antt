@@ -1,7 +1,7 @@
 -- `status::rank` meets its contract: what stands at a place is what the class of its code counts.
 -- The two calls, one after the other.
 use borrow.Author.Needs.{needs}
-use Rattle.status.specs.Merger.{rankAt}
+use Rattle.status.specs.support.Merger.{rankAt}
 use Rattle.status.proofs.rank.Statement.{statement}
 use Rattle.status.proofs.rank.Tie as tie
 

@@ -1,7 +1,7 @@
 -- `status::vote_in` meets its contract: the owner's place takes the larger of the two, and any other owner changes nothing.
 -- Each way rewrites with its test.
 use Rattle.laws.proofs.Tests.{tests}
-use Rattle.status.specs.Merger.{votedOf}
+use Rattle.status.specs.support.Merger.{votedOf}
 use borrow.Author.Needs.{needs}
 use Rattle.status.proofs.vote_in.Statement.{statement}
 use Rattle.status.proofs.vote_in.Tie as tie

@@ -8,7 +8,7 @@ use borrow.Author.Tests.{not-true, not-false}
 use lib.ListN.{length, drop}
 use Rattle.text.specs.Bytes.{starts}
 use Rattle.text.specs.Number.{value, number}
-use Rattle.text.specs.Seen.{seen, Within}
+use Rattle.text.specs.support.Seen.{seen, Within}
 use Rattle.text.proofs.Bytes.{starts-room}
 use Rattle.text.proofs.OneLine.{no-key, no-number, out-of-range, in-range}
 use Rattle.text.proofs.read_line.Statement.{statement}

@@ -12,9 +12,9 @@ use Rattle.laws.specs.Base.{allI}
 use Rattle.laws.proofs.Tests.{mapped-long}
 use Rattle.laws.proofs.All.{alli-next, alli-stop, alli-end}
 use Rattle.ptc.specs.declared.Ptc.{Ptc}
-use Rattle.ptc.specs.Rest.{atRest}
-use Rattle.board.specs.Command.{freshPtc}
-use Rattle.board.specs.Still.{calmUnder}
+use Rattle.ptc.specs.support.Rest.{atRest}
+use Rattle.ptc.specs.Fresh.{freshPtc}
+use Rattle.board.specs.support.Still.{calmUnder}
 use Rattle.board.proofs.Board.is_calm.Statement.{statement}
 use Rattle.board.proofs.Board.is_calm.Tie as tie
 

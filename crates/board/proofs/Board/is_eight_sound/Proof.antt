@@ -14,7 +14,7 @@ use Rattle.laws.proofs.All.{alli-next, alli-stop, alli-end}
 use Rattle.ptc.specs.declared.Ptc.{Ptc}
 use Rattle.ptc.specs.Sound.{soundPtc}
 use Rattle.board.specs.declared.Board.{Board}
-use Rattle.board.specs.Command.{freshPtc}
+use Rattle.ptc.specs.Fresh.{freshPtc}
 use Rattle.board.specs.Sound.{soundEight}
 use Rattle.board.proofs.Board.is_eight_sound.Statement.{statement}
 use Rattle.board.proofs.Board.is_eight_sound.Tie as tie

@@ -11,7 +11,7 @@ use Rattle.settings.specs.Check.{checked}
 use Rattle.settings.proofs.Bounds.{done-checks}
 use Rattle.clock.specs.Clock.{soundClock}
 use Rattle.clock.specs.Turn.{soundTurn}
-use Rattle.records.specs.Refusal.{MOST}
+use Rattle.records.specs.Refusal.{LIFETIME}
 use Rattle.board.specs.declared.Board.{Board}
 use Rattle.board.specs.Kit.{slotsOf}
 use Rattle.board.specs.Sound.{soundBoard}
@@ -33,7 +33,7 @@ turning c = timing (c .before .before .before .before .before)
 told-done : (c : tie.After-is-done) → succeeded (checked (checking c .settings)) ≡ c .is-done .result
 told-done c = ap succeeded (sym (c .before .check .ensures)) ∙ sym (c .is-done .ensures)
 
-told-clock : (c : tie.After-is-sound) → soundClock MOST (orbitOf (timing c .settings)) (timing c .clock) ≡ c .is-sound .result
+told-clock : (c : tie.After-is-sound) → soundClock LIFETIME (orbitOf (timing c .settings)) (timing c .clock) ≡ c .is-sound .result
 told-clock c = rw (← c .before .orbit .ensures) (sym (c .is-sound .ensures))
 
 told-turn : (c : tie.After-is-sound2) → soundTurn (slotsOf (turning c .settings)) (turning c .turn) ≡ c .is-sound2 .result
@@ -42,7 +42,7 @@ told-turn c = rw (← c .before .before .before .slots-of .ensures) (sym (c .is-
 checks : (c : tie.Else1) → checked (checking (c .before) .settings) ≡ DONE
 checks c = done-checks _ (told-done (c .before) ∙ not-false _ (c .if1 .left))
 
-clock-on : (c : tie.Else2) → soundClock MOST (orbitOf (timing (c .before) .settings)) (timing (c .before) .clock) ≡ true
+clock-on : (c : tie.Else2) → soundClock LIFETIME (orbitOf (timing (c .before) .settings)) (timing (c .before) .clock) ≡ true
 clock-on c = told-clock (c .before) ∙ not-false _ (c .if2 .left)
 
 turn-on : (c : tie.Else3) → soundTurn (slotsOf (turning (c .before) .settings)) (turning (c .before) .turn) ≡ true

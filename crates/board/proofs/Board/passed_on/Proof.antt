@@ -6,16 +6,16 @@ use Rattle.laws.proofs.Bools.{one-le}
 use Rattle.board.proofs.Board.passed_on.Statement.{statement}
 use Rattle.board.proofs.Board.passed_on.Tie as tie
 
-mark-of-requires : tie.Need-mark-of-requires
-mark-of-requires c κs = search needs
+one-requires : tie.Need-one-requires
+one-requires c κs = search needs
 
 pass-requires : tie.Need-pass-requires
 pass-requires c κs =
     let s = c .before .before in
-    omega (arith, c .mark-of .ensures, one-le (s .args .carried), s .pre)
+    omega (arith, c .one .ensures, one-le (s .args .carried), s .pre)
 
 returns : tie.Need-returns
-returns c = rw (c .pass .ensures, c .before .mark-of .ensures)
+returns c = rw (c .pass .ensures, c .before .one .ensures)
 
 pub passed-on-spec : {M : Type 1} → statement M
-passed-on-spec = tie.close (tie.spec mark-of-requires pass-requires returns)
+passed-on-spec = tie.close (tie.spec one-requires pass-requires returns)

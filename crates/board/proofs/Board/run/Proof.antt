@@ -10,12 +10,12 @@ use borrow.Author.Needs.{needs}
 use lib.ListN.{length, drop, length-take, length-drop}
 use Rattle.laws.proofs.Bools.{one-le}
 use Rattle.laws.proofs.Tests.{mapped-long}
-use Rattle.status.specs.Merger.{voted}
+use Rattle.status.specs.support.Merger.{voted}
 use Rattle.throttle.specs.Rules.{Sensible}
-use Rattle.clock.specs.Room.{ClockRoom}
-use Rattle.ptc.specs.Room.{Room}
+use Rattle.clock.specs.support.Room.{ClockRoom}
+use Rattle.ptc.specs.support.Room.{Room}
 use Rattle.records.specs.Records.{recAt, codesIn}
-use Rattle.records.specs.Refusal.{MOST}
+use Rattle.records.specs.Refusal.{LIFETIME}
 use Rattle.records.proofs.Laws.{lent}
 use Rattle.board.specs.Run.{ran, rowsOf}
 use Rattle.board.proofs.Keeps.{Fit}
@@ -84,7 +84,7 @@ still c =
 
 asks : (c : tie.Then1 Inv-loop μ-loop) →
     let b = turn c .before .loop .self in
-    (Sensible (turn c .before .before .of .result .rules)) × (Room (holding b)) × (ClockRoom (b .clock)) × (b .clock .crossings < MOST)
+    (Sensible (turn c .before .before .of .result .rules)) × (Room (holding b)) × (ClockRoom (b .clock)) × (b .clock .crossings < LIFETIME)
 asks c = still-asked (begun (turn c)) _ _ (still c)
 
 lone : (c : tie.After-rested Inv-loop μ-loop) →
@@ -141,13 +141,13 @@ mul-q c = search (needs, still (found (c .before)) .low)
 element-set-from-q : tie.Need-element-set-from-q Inv-loop μ-loop
 element-set-from-q c = search (needs, still (found (c .before)) .low)
 
-mark-of-requires : tie.Need-mark-of-requires Inv-loop μ-loop
-mark-of-requires c κs = search needs
+one-requires : tie.Need-one-requires Inv-loop μ-loop
+one-requires c κs = search needs
 
 pass-requires : tie.Need-pass-requires Inv-loop μ-loop
 pass-requires c κs =
     let r = c .before .before .before in
-    omega (arith, c .mark-of .ensures, one-le (r .rested .result .sent), asks (found r) .3)
+    omega (arith, c .one .ensures, one-le (r .rested .result .sent), asks (found r) .3)
 
 ticked-requires : tie.Need-ticked-requires Inv-loop μ-loop
 ticked-requires c κs = asks (found (c .before .before .before .before)) .2
@@ -185,7 +185,7 @@ loop-again c =
     let pass = c .before .before .before .before .before in
     let rows = again-rows (begun t) (a .args .rows .now) (l .rows) _ (a .pre .2) (l .inv .2) (still-part (still f) _ (lone r) _ _ (c .before .before .put-still .ensures)) in (
       omega (arith, t .loop-test .taken),
-      again-board (begun t) _ (still-board (still f) _ (lone r) _ _ _ (pass .before .mark-of .ensures) (pass .pass .ensures) (c .before .before .before .before .ticked .ensures)),
+      again-board (begun t) _ (still-board (still f) _ (lone r) _ _ _ (pass .before .one .ensures) (pass .pass .ensures) (c .before .before .before .before .ticked .ensures)),
       rows,
       again-long (begun t) _ _ (a .pre .2) rows,
       λ h. again-votes (begun t) (l .classes) (still f .votes),
@@ -290,7 +290,7 @@ run-spec =
     rested-requires
     mul-q
     element-set-from-q
-    mark-of-requires
+    one-requires
     pass-requires
     ticked-requires
     mul-put-still

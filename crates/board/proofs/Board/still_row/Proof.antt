@@ -11,8 +11,8 @@ use Rattle.laws.proofs.Tests.{mapped-long}
 use Rattle.laws.proofs.Over.{over, over-turn, over-whole}
 use Rattle.states.specs.Names.{statusOf}
 use Rattle.ptc.specs.declared.Ptc.{Ptc}
-use Rattle.board.specs.Command.{freshPtc}
-use Rattle.board.specs.Still.{stillRow}
+use Rattle.ptc.specs.Fresh.{freshPtc}
+use Rattle.board.specs.support.Still.{stillRow}
 use Rattle.board.proofs.Crossings.{shown-low}
 use Rattle.board.proofs.Board.still_row.Statement.{statement}
 use Rattle.board.proofs.Board.still_row.Tie as tie

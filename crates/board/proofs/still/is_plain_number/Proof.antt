@@ -1,7 +1,7 @@
 -- `board::still::is_plain_number` meets its contract: each number that is not plain is a part of the conjunction that fails.
 -- The code's tests are the definition's.
 use borrow.Author.Tests.{eq-eqb, ne-eqb}
-use Rattle.board.specs.Still.{plainNumber}
+use Rattle.board.specs.support.Still.{plainNumber}
 use Rattle.board.proofs.still.is_plain_number.Statement.{statement}
 use Rattle.board.proofs.still.is_plain_number.Tie as tie
 

@@ -2,7 +2,7 @@
 -- Past them the requests decide, by the code's own tests.
 use borrow.Author.Tests.{eq-eqb, ne-eqb}
 use borrow.Author.Needs.{needs}
-use Rattle.board.specs.Still.{plainRecord}
+use Rattle.board.specs.support.Still.{plainRecord}
 use Rattle.board.proofs.still.is_plain_record.Statement.{statement}
 use Rattle.board.proofs.still.is_plain_record.Tie as tie
 

@@ -7,7 +7,7 @@ use borrow.Author.Tests.{not-true, not-false, lt-ltb, le-ltb}
 use borrow.Author.Needs.{needs}
 use Rattle.records.specs.Records.{recAt}
 use Rattle.records.proofs.Laws.{lent}
-use Rattle.board.specs.Still.{plainCrossing}
+use Rattle.board.specs.support.Still.{plainCrossing}
 use Rattle.board.proofs.still.is_still.Statement.{statement}
 use Rattle.board.proofs.still.is_still.Tie as tie
 

@@ -21,24 +21,24 @@ next-number-requires c κs =
     let s = c .before .before .before in
     omega (arith, c .before .before .number .ensures, number-le (s .args .self) (s .args .marker), s .pre .next)
 
-one-if-requires : tie.Need-one-if-requires
-one-if-requires c κs = search needs
+one-requires : tie.Need-one-requires
+one-requires c κs = search needs
 
 add-t9 : tie.Need-add-t9
 add-t9 c =
     let s = c .before .before .before .before .before .before in
-    omega (arith, c .before .one-if .ensures, one-le (c .before .before .before .before .ends-orbit .result), s .pre .orbit)
+    omega (arith, c .before .one .ensures, one-le (c .before .before .before .before .ends-orbit .result), s .pre .orbits)
 
 is-error-requires : tie.Need-is-error-requires
 is-error-requires c κs = search needs
 
-one-if-requires-2 : tie.Need-one-if-requires-2
-one-if-requires-2 c κs = search needs
+one-requires-2 : tie.Need-one-requires-2
+one-requires-2 c κs = search needs
 
 add-t12 : tie.Need-add-t12
 add-t12 c =
     let s = c .before .before .before .before .before .before .before .before .before in
-    omega (arith, c .before .one-if2 .ensures, one-le (c .before .before .is-error .result), s .pre .errors)
+    omega (arith, c .before .one2 .ensures, one-le (c .before .before .is-error .result), s .pre .errors)
 
 returns : tie.Need-returns
 returns c =
@@ -46,7 +46,7 @@ returns c =
     let n = first .before .before .before .before in
     let a = n .before .args in
     ticked-is (a .orbit) (a .self) (a .marker) (n .number .ensures) (first .before .before .before .ends-orbit .ensures) (first .before .next-number .ensures)
-    (first .one-if .ensures) (c .before .before .is-error .ensures) (c .before .one-if2 .ensures)
+    (first .one .ensures) (c .before .before .is-error .ensures) (c .before .one2 .ensures)
 
 pub ticked-spec : {M : Type 1} → statement M
 ticked-spec =
@@ -56,9 +56,9 @@ ticked-spec =
     ends-orbit-requires
     add-t6
     next-number-requires
-    one-if-requires
+    one-requires
     add-t9
     is-error-requires
-    one-if-requires-2
+    one-requires-2
     add-t12
     returns)

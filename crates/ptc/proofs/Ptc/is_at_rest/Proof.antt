@@ -2,7 +2,7 @@
 -- Past them the state decides.
 use borrow.Author.Tests.{ne-eqb}
 use borrow.Author.Needs.{needs}
-use Rattle.ptc.specs.Rest.{atRest}
+use Rattle.ptc.specs.support.Rest.{atRest}
 use Rattle.ptc.proofs.Ptc.is_at_rest.Statement.{statement}
 use Rattle.ptc.proofs.Ptc.is_at_rest.Tie as tie
 

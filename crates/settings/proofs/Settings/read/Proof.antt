@@ -7,7 +7,7 @@ use native.Mathlib.Omega.{arith}
 use borrow.Author.Needs.{needs}
 use lib.ListN.{length, drop, take, length-set}
 use Rattle.text.specs.Lines.{readLines}
-use Rattle.text.specs.Seen.{lineSeen, LineWithin}
+use Rattle.text.specs.support.Seen.{lineSeen, LineWithin}
 use Rattle.keys.specs.Settings.{table}
 use Rattle.settings.proofs.Deciding.{ill-is, out-is, value-is, tail-is, relation-is, done-is}
 use Rattle.settings.proofs.Settings.read.Statement.{statement}

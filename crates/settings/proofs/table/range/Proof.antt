@@ -14,7 +14,7 @@ use Rattle.laws.proofs.Bools.{both}
 use Rattle.text.specs.declared.Range.{Range}
 use Rattle.text.specs.Lines.{rangesOf}
 use Rattle.keys.specs.Settings.{table}
-use Rattle.settings.specs.Ranges.{nowhere, rangeAt}
+use Rattle.settings.specs.support.Ranges.{nowhere, rangeAt}
 use Rattle.settings.proofs.Lines.{ranged}
 use Rattle.settings.proofs.table.range.Statement.{statement}
 use Rattle.settings.proofs.table.range.Tie as tie

@@ -2,7 +2,7 @@
 -- The last arm is every other state, which does not rest.
 use borrow.Author.Tests.{ne-eqb}
 use borrow.Author.Needs.{needs}
-use Rattle.states.specs.Rest.{resting}
+use Rattle.states.specs.support.Rest.{resting}
 use Rattle.states.proofs.moves.rests.Statement.{statement}
 use Rattle.states.proofs.moves.rests.Tie as tie
 

@@ -6,7 +6,7 @@ use native.Mathlib.Nat.{zero-add}
 use native.Mathlib.Omega.{arith}
 use borrow.Author.Needs.{needs}
 use Rattle.status.specs.Codes.{codeAt}
-use Rattle.status.specs.Merger.{rankBy, voted}
+use Rattle.status.specs.support.Merger.{rankBy, voted}
 use Rattle.status.proofs.Turn.{half-most, turn}
 use Rattle.status.proofs.Merger.merge.Statement.{statement}
 use Rattle.status.proofs.Merger.merge.Tie as tie

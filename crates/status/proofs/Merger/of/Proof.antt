@@ -1,7 +1,7 @@
 -- `status::Merger::of` meets its contract: the two tables, each as its call ensures it.
 -- The ranks are those of the settings' own two flags.
 use borrow.Author.Needs.{needs}
-use Rattle.status.specs.Merger.{mergerOf}
+use Rattle.status.specs.support.Merger.{mergerOf}
 use Rattle.status.proofs.Merger.of.Statement.{statement}
 use Rattle.status.proofs.Merger.of.Tie as tie
 

@@ -4,7 +4,7 @@ use mathlib.Core.Bool.{Bool, false, _&&_}
 use lib.Dec.{eqb}
 use Rattle.laws.specs.Base.{one}
 use Rattle.states.specs.Moves.{orbitCode}
-use Rattle.states.specs.Rest.{resting}
+use Rattle.states.specs.support.Rest.{resting}
 use Rattle.ptc.specs.declared.Ptc.{Ptc}
 use Rattle.ptc.specs.declared.Plan.{Plan}
 use Rattle.ptc.specs.declared.Scene.{Scene}

@@ -2,17 +2,17 @@
 use Prim.Native.Nat.{ℕ, _+_}
 use mathlib.Core.List.{List, [], _∷_, _++_}
 use lib.ListN.{length, take}
-use Rattle.text.specs.Lines.{head}
+use Rattle.text.specs.Lines.{lineHead}
 
-abbrev pub heads : List (List ℕ) → List ℕ
-heads [] = []
-heads (k ∷ ks) = head k ++ heads ks
+abbrev pub lineHeads : List (List ℕ) → List ℕ
+lineHeads [] = []
+lineHeads (k ∷ ks) = lineHead k ++ lineHeads ks
 
 -- where the nth begins
 unfoldable pub startOf : List (List ℕ) → ℕ → ℕ
-startOf ks n = length (heads (take n ks))
+startOf ks n = length (lineHeads (take n ks))
 
 -- where each begins, the first at a, and where the last ends
 abbrev pub startsFrom : ℕ → List (List ℕ) → List ℕ
 startsFrom a [] = a ∷ []
-startsFrom a (k ∷ ks) = a ∷ startsFrom (a + length (head k)) ks
+startsFrom a (k ∷ ks) = a ∷ startsFrom (a + length (lineHead k)) ks

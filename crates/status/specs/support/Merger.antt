@@ -31,7 +31,7 @@ unfoldable pub rankBy : Merger → List ℕ → ℕ → ℕ
 rankBy m codes i = getD (m .ranks) (half i + codeAt codes i) 0
 
 -- the eight with one more vote
-unfoldable pub votedOf : List ℕ → ℕ → ℕ → List ℕ
+unfoldable pub votedOf : (best : List ℕ) (k v : ℕ) → List ℕ
 votedOf best k v = if (ltb k 8) (set best k (max (getD best k 0) v)) best
 
 -- the eight after the GTFE code and the first n inputs

@@ -9,7 +9,7 @@ use Rattle.text.specs.declared.Line.{Line}
 use Rattle.text.specs.declared.Line.the-variants as line-is
 use Rattle.text.specs.declared.Range.{Range}
 use Rattle.text.specs.Number.{Parsed, value, none, number}
-use Rattle.text.specs.Lines.{Taken, taken, ill, out, readLine}
+use Rattle.text.specs.Lines.{LineRead, taken, ill, out, readLine}
 
 abbrev pub seen : List ℕ → Number → Parsed
 seen s (number-is.Value v n) = value v (drop n s)
@@ -24,7 +24,7 @@ pub record NumberIs (s : List ℕ) (at k : ℕ) (r : Number) : Type 0 where
   pub says : seen s r ≡ number k (drop at s)
   pub inside : Within s r
 
-abbrev pub lineSeen : List ℕ → Line → Taken
+abbrev pub lineSeen : List ℕ → Line → LineRead
 lineSeen s (line-is.Value v n) = taken v (drop n s)
 lineSeen s line-is.Ill = ill
 lineSeen s line-is.Out = out

@@ -5,7 +5,7 @@ use Rattle.text.specs.declared.Range.{Range}
 use Rattle.text.specs.Lines.{rangesOf}
 use Rattle.keys.specs.Settings.{table}
 
--- past the last line: nothing is in range
+-- past the last line, where nothing is looked up
 abbrev pub nowhere : Range
 nowhere = record { low = 0; high = 0; digits = 0 }
 

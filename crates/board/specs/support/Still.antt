@@ -8,7 +8,7 @@ use Rattle.laws.specs.Base.{mapI, allI}
 use Rattle.settings.specs.declared.names.Schedule.{Schedule}
 use Rattle.states.specs.Names.{statusOf}
 use Rattle.ptc.specs.declared.Ptc.{Ptc}
-use Rattle.ptc.specs.Rest.{atRest}
+use Rattle.ptc.specs.support.Rest.{atRest}
 use Rattle.records.specs.Records.{isCrossing}
 use Rattle.records.specs.Rows.{crossingRow}
 

@@ -7,7 +7,7 @@ use Rattle.clock.specs.declared.Clock.{Clock}
 pub record ClockRoom (c : Clock) : Type 0 where
   pub crossings : c .crossings < 2 ^ 41
   pub next : c .next < 2 ^ 31
-  pub orbit : c .orbit < 2 ^ 41
+  pub orbits : c .orbits < 2 ^ 41
   pub errors : c .errors < 2 ^ 41
 
 -- slots are at most 255 tens of orbits

@@ -1,0 +1,92 @@
+-- Document 01, "Settings text": every name with its key. `Names.antt` finds a value by the place of its line; here each is found by the
+-- key that stands on the line, so that a place which is off, in the names or in the table, makes this false.
+use Prim.Native.Nat.{ℕ, _<_}
+use Prim.Native.String.{String}
+use mathlib.Core.Path.{_≡_}
+use mathlib.Core.Bool.{Bool, true, false, not, _&&_}
+use mathlib.Core.List.{List, [], _∷_, _++_}
+use lib.Dec.{eqb}
+use lib.ListN.{getD}
+use Rattle.laws.specs.Base.{firstNot}
+use Rattle.text.specs.Bytes.{bytes}
+use Rattle.text.specs.Decimal.{decimal}
+use Rattle.text.specs.Lines.{keysOf}
+use Rattle.keys.specs.Settings.{table}
+use Rattle.settings.specs.declared.Settings.{Settings}
+use Rattle.settings.specs.declared.names.Rule.{Rule}
+use Rattle.settings.specs.Names.{after, orbitOf, gapOf, rulesOf, warnBlocksOf, ignoresOf, waitsOf, slotOf, scheduleOf, timesOf, partOf}
+
+abbrev pub sameBytes : List ℕ → List ℕ → Bool
+sameBytes [] [] = true
+sameBytes [] (b ∷ bs) = false
+sameBytes (a ∷ more) [] = false
+sameBytes (a ∷ more) (b ∷ bs) = eqb a b && sameBytes more bs
+
+-- how many lines stand before the one with this key; 71 where there is none
+unfoldable pub lineOf : List ℕ → ℕ
+unfolding table
+lineOf key = firstNot (λ n. not (sameBytes key (getD (keysOf table) n []))) 71 0
+
+-- the value of the line with this key, and with this key and a number
+unfoldable pub valueOf : Settings → String → ℕ
+unfolding lineOf bytes
+valueOf s key = after s (lineOf (bytes key))
+
+unfoldable pub valueOfNth : Settings → String → ℕ → ℕ
+unfolding lineOf bytes decimal
+valueOfNth s key n = after s (lineOf (bytes key ++ decimal n))
+
+abbrev pub ruleOf : Settings → (period norm low : String) → Rule
+ruleOf s period norm low = record { period = valueOf s period; norm = valueOf s norm; low = valueOf s low }
+
+unfoldable pub atValues : Settings → List ℕ
+unfolding valueOf
+atValues s =
+    valueOf s "at_bc0"
+    ∷ valueOf s "at_te"
+    ∷ valueOf s "at_resync"
+    ∷ valueOf s "at_hard"
+    ∷ valueOf s "at_ec0"
+    ∷ valueOf s "at_oc0"
+    ∷ valueOf s "at_start"
+    ∷ valueOf s "at_stop"
+    ∷ valueOf s "at_gap"
+    ∷ valueOf s "at_wte"
+    ∷ valueOf s "at_cal"
+    ∷ []
+
+pub record Named (s : Settings) : Type 0 where
+  pub orbit : orbitOf s ≡ valueOf s "orbit"
+  pub gap : gapOf s ≡ record { low = valueOf s "gap_low"; high = valueOf s "gap_high" }
+  pub rules : rulesOf s ≡ record {
+    spacing = valueOf s "r1_gap";
+    second = ruleOf s "r2_period" "r2_norm" "r2_low";
+    third = ruleOf s "r3_period" "r3_norm" "r3_low";
+    fourth = ruleOf s "r4_period" "r4_norm" "r4_low";
+  }
+  pub warn-blocks : warnBlocksOf s ≡ eqb (valueOf s "warn_blocks") 1
+  pub ignores : ignoresOf s ≡ record { disc = eqb (valueOf s "ignore_disc") 1; bad = eqb (valueOf s "ignore_bad") 1 }
+  pub waits : waitsOf s ≡ record {
+    settle = record { resync = valueOf s "settle_resync"; hard = valueOf s "settle_hard" };
+    recover = record { resync = valueOf s "recover_resync"; hard = valueOf s "recover_hard" };
+  }
+  pub slot : (k : ℕ) → k < 8 → slotOf s k ≡ valueOfNth s "slot" k
+  pub schedule : scheduleOf s ≡ record {
+    bc0 = valueOf s "at_bc0";
+    te = valueOf s "at_te";
+    resync = valueOf s "at_resync";
+    hard = valueOf s "at_hard";
+    ec0 = valueOf s "at_ec0";
+    oc0 = valueOf s "at_oc0";
+    start = valueOf s "at_start";
+    stop = valueOf s "at_stop";
+    gap = valueOf s "at_gap";
+    wte = valueOf s "at_wte";
+    cal = valueOf s "at_cal";
+  }
+  -- the eleven `at_` values that relations 2 and 3 are about
+  pub times : (i : ℕ) → i < 11 → getD (timesOf s) i 0 ≡ getD (atValues s) i 0
+  pub part : (p : ℕ) → p < 32 → partOf s p ≡ valueOfNth s "part" p
+
+abbrev pub NamedByKey : Type 0
+NamedByKey = (s : Settings) → Named s
