@@ -34,7 +34,8 @@ use Rattle.board.specs.Run.{stepped, rowOf, ran}
 use Rattle.board.specs.Sound.{soundBoard}
 use Rattle.board.specs.Fresh.{freshBoard}
 use Rattle.board.proofs.Settled.{sound-parts}
-use Rattle.board.proofs.Keeps.{Fit, ptc-at}
+use Rattle.board.proofs.Keeps.{Fit}
+use Rattle.eight.proofs.Sound.{ptc-at}
 use Rattle.report.specs.Report.{commonValues, controllerText, blocksFrom, reportText, reportAnswer, reported}
 use Rattle.logbook.specs.Row.{rowAt, takenIn}
 use Rattle.logbook.specs.Whole.{Taken, Crossing, whole}

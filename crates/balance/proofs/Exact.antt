@@ -17,7 +17,7 @@ use Rattle.ptc.specs.Cycle.{OPEN, asksOf}
 use Rattle.ptc.specs.Counts.{SENT, STATE, SLOT, GAP, CAL, THROTTLE, inGap, fateOf}
 use Rattle.ptc.specs.Crossing.{freeIn, crossedOf}
 use Rattle.records.specs.Records.{recAt, askedIn}
-use Rattle.board.specs.Kit.{planOf}
+use Rattle.kit.specs.Kit.{planOf}
 use Rattle.logbook.specs.Whole.{Taken, Crossing, whole}
 use Rattle.logbook.proofs.Seen.{sceneIn, ptcIn, classIn}
 use Rattle.balance.specs.Reading.{readingOf}

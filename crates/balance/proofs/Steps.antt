@@ -25,7 +25,7 @@ use Rattle.ptc.specs.Cycle.{NONE, OPEN, keptOf, openedOf, asksOf}
 use Rattle.ptc.specs.Counts.{SENT, fateOf, lostTo, requestedOf, calibratedOf, noCounts}
 use Rattle.ptc.specs.Crossing.{freeIn, crossedOf}
 use Rattle.ptc.specs.Command.{armedPtc, ledPtc, commandedOf}
-use Rattle.board.specs.Kit.{planOf}
+use Rattle.kit.specs.Kit.{planOf}
 use Rattle.logbook.specs.Row.{takenIn}
 use Rattle.balance.specs.Reading.{Reading, Look, opens, cause, calCounted, counted, pastCrossing, pastCommand}
 use Rattle.balance.proofs.Showing.{moved, cycle, code-opens, code-restarts}

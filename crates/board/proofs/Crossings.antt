@@ -1,16 +1,13 @@
 -- A crossing put together from its calls: what each of them asks of a sound board, and what their answers make.
 -- The kit holds what the settings say, so each answer is the definition's; bytes of a record are codes.
-use mathlib.Core.Path.{_≡_, refl, _∙_}
+use mathlib.Core.Path.{_≡_, _∙_}
 use mathlib.Core.Bool.{Bool, true}
-use mathlib.Core.List.{List, [], _∷_, _++_}
-use Prim.Native.Nat.{ℕ, suc, _≤_, _<_}
+use mathlib.Core.List.{List, _++_}
+use Prim.Native.Nat.{ℕ, _≤_, _<_}
 use native.Mathlib.Omega.{arith}
-use borrow.Author.Tests.{lt-ltb}
-use lib.Dec.{ltb}
 use lib.ListN.{length, getD, drop, length-drop}
 use lib.Seq.{getD-drop}
-use Rattle.laws.specs.Base.{allB, mapI}
-use Rattle.laws.proofs.Bools.{and-yes}
+use Rattle.laws.specs.Base.{mapI}
 use Rattle.settings.specs.Names.{orbitOf, rulesOf, warnBlocksOf}
 use Rattle.status.specs.Codes.{Coded}
 use Rattle.status.specs.Merge.{classes}
@@ -23,8 +20,6 @@ use Rattle.clock.specs.Clock.{numberOf, orbitEnds}
 use Rattle.clock.specs.Turn.{turnedOf}
 use Rattle.clock.specs.support.Room.{ClockRoom, SlotRoom}
 use Rattle.clock.proofs.Keeps.{clock-roomy, holder-most}
-use Rattle.states.specs.Names.{statusOf}
-use Rattle.states.proofs.Keeps.{status-low}
 use Rattle.ptc.specs.declared.Ptc.{Ptc}
 use Rattle.ptc.specs.declared.Plan.{Plan}
 use Rattle.ptc.specs.declared.Scene.{Scene}
@@ -33,11 +28,13 @@ use Rattle.records.specs.Rows.{carries, crossingRow}
 use Rattle.records.specs.Refusal.{LIFETIME}
 use Rattle.records.proofs.Laws.{code-low}
 use Rattle.board.specs.declared.Board.{Board}
-use Rattle.board.specs.declared.Kit.{Kit}
-use Rattle.board.specs.Kit.{kitOf}
-use Rattle.board.specs.Crossing.{withPtcs, turnIn, sceneAt, sceneOf, ptcOf, byteOf, shownOf, eight, clockOf, passedOn, boardCrossed, rowCrossed}
+use Rattle.kit.specs.declared.Kit.{Kit}
+use Rattle.kit.specs.support.Laid.{kitOf}
+use Rattle.board.specs.Crossing.{withPtcs, turnIn, sceneAt, sceneOf, eight, passedOn, boardCrossed, rowCrossed}
+use Rattle.eight.specs.Eight.{ptcOf, byteOf, shownOf, clockOf}
 use Rattle.board.specs.Sound.{soundBoard}
-use Rattle.board.proofs.Settled.{sound-parts, slot-room, sensible, orbit-some}
+use Rattle.board.proofs.Settled.{sound-parts}
+use Rattle.kit.proofs.Settled.{slot-room, sensible, orbit-some}
 
 -- ---- what the calls ask
 
@@ -50,14 +47,6 @@ coded rec long w bytes = record {
 }
 
 -- a status fits in a nibble
-status-fits : (s : ℕ) → ltb (statusOf s) 16 ≡ true
-status-fits s = lt-ltb (statusOf s) 16 (omega (arith, status-low s))
-
-pub shown-low : (g : ℕ → Ptc → ℕ) (i : ℕ) (ps : List Ptc) → allB (λ s. ltb s 16) (mapI (λ k p. statusOf (g k p)) i ps) ≡ true
-unfolding allB mapI
-shown-low g i [] = refl
-shown-low g i (p ∷ ps) = and-yes _ _ (status-fits _) (shown-low g (suc i) ps)
-
 pub clock-room : (b : Board) → soundBoard b ≡ true → ClockRoom (b .clock)
 clock-room b e =
     let p = sound-parts b e in

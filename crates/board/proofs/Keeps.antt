@@ -9,11 +9,11 @@ use native.Mathlib.Nat.{zero-add}
 use native.Mathlib.Omega.{arith}
 use borrow.Author.Tests.{le-leb, lt-ltb}
 use lib.Dec.{eqb, leb, ltb}
-use lib.ListN.{length, getD, replicate, length-set, length-append, List·getD-eq-default}
-use Rattle.laws.specs.Base.{if, one, allI}
-use Rattle.laws.proofs.Bools.{both, and-yes, if-has, one-le}
-use Rattle.laws.proofs.Tests.{either, lt-or-ge}
-use Rattle.laws.proofs.All.{alli-get, alli-mapI, alli-set}
+use lib.ListN.{length, getD, length-set, length-append}
+use Rattle.laws.specs.Base.{if, one}
+use Rattle.laws.proofs.Bools.{both, if-has, one-le}
+use Rattle.laws.proofs.Tests.{either}
+use Rattle.laws.proofs.All.{alli-mapI, alli-set}
 use Rattle.laws.proofs.Over.{length-mapI}
 use Rattle.answer.specs.Told.{DONE}
 use Rattle.settings.specs.declared.Settings.{Settings}
@@ -25,24 +25,24 @@ use Rattle.throttle.proofs.Sound.{passed-sound, fresh-marks-sound}
 use Rattle.clock.specs.declared.Clock.{Clock}
 use Rattle.clock.specs.Clock.{orbitEnds, tickedOf, freshClock, soundClock}
 use Rattle.clock.proofs.Keeps.{ticked-sound, turned-sound, fresh-turn-sound}
-use Rattle.states.specs.Sound.{soundState}
-use Rattle.ptc.specs.declared.Ptc.{Ptc}
-use Rattle.ptc.specs.Sound.{soundCounts, soundPtc}
-use Rattle.ptc.proofs.Balance.{none-sound}
 use Rattle.ptc.proofs.Keeps.{crossed-sound, commanded-sound}
 use Rattle.records.specs.Records.{recAt, isCrossing, markerIn, askedIn, codesIn, crossingsIn}
 use Rattle.records.specs.Rows.{carries, clearsOrbit}
 use Rattle.records.specs.Refusal.{LIFETIME}
 use Rattle.records.proofs.Laws.{crossings-below, row-long, command-row-long}
 use Rattle.board.specs.declared.Board.{Board}
-use Rattle.board.specs.Kit.{slotsOf, planOf}
-use Rattle.board.specs.Crossing.{turnIn, sceneOf, actOf, ptcOf, byteOf, shownOf, eight, clockOf, boardCrossed, rowCrossed}
+use Rattle.kit.specs.Kit.{slotsOf, planOf}
+use Rattle.board.specs.Crossing.{turnIn, sceneOf, eight, boardCrossed, rowCrossed}
+use Rattle.eight.specs.Eight.{actOf, ptcOf, byteOf, shownOf, clockOf, soundAt}
 use Rattle.ptc.specs.Fresh.{freshPtc}
 use Rattle.board.specs.Command.{commandIn, boardCommanded, rowCommanded}
 use Rattle.board.specs.Run.{stepped, rowOf, ran, rowsOf}
-use Rattle.board.specs.Sound.{soundEight, soundBoard}
+use Rattle.eight.specs.Eight.{soundEight}
+use Rattle.board.specs.Sound.{soundBoard}
 use Rattle.board.specs.Fresh.{freshBoard}
-use Rattle.board.proofs.Settled.{Parts, sound-parts, parts-sound, waits-sound, slots-long, orbit-some}
+use Rattle.board.proofs.Settled.{Parts, sound-parts, parts-sound}
+use Rattle.eight.proofs.Sound.{ptc-at, fresh-eight-sound}
+use Rattle.kit.proofs.Settled.{waits-sound, slots-long, orbit-some}
 
 -- ---- what stays, whatever the record is
 
@@ -103,9 +103,6 @@ cleared-sound most orbit t true e =
     rw (x .0, y .0, z .1, le-leb 0 (t .crossings) (omega arith))
 
 -- the test of the controller at a place
-abbrev soundAt : ℕ → ℕ → ℕ → Ptc → Bool
-soundAt holder m k p = soundPtc k (eqb k holder) m p
-
 -- the eight among one crossing more, with the holder of this crossing
 eight-crossed : (b : Board) (rec : List ℕ) → Parts b
     → soundEight (turnIn b (markerIn rec) .holder) (b .clock .crossings + 1) (eight ptcOf b rec) ≡ true
@@ -140,18 +137,6 @@ crossing-sound b rec long room e =
     })
 
 -- a fresh controller is sound at every place and among any crossings, so it may stand for one past the end
-fresh-ptc-sound : (k : ℕ) (own : Bool) (m : ℕ) → soundPtc k own m freshPtc ≡ true
-unfolding soundPtc soundState
-fresh-ptc-sound k own m = and-yes _ _ (none-sound m) (le-leb 0 m (omega arith))
-
-pub ptc-at : (holder m : ℕ) (ps : List Ptc) (k : ℕ) → soundEight holder m ps ≡ true → soundPtc k (eqb k holder) m (getD ps k freshPtc) ≡ true
-unfolding soundEight
-ptc-at holder m ps k e =
-    ⊎-elim
-    (λ (h : k < length ps). rw zero-add at (alli-get (soundAt holder m) 0 ps k freshPtc e h))
-    (λ (h : length ps ≤ k). rw (List·getD-eq-default ps freshPtc h) (fresh-ptc-sound k (eqb k holder) m))
-    (lt-or-ge k (length ps))
-
 eight-commanded : (b : Board) (rec : List ℕ) → Parts b → soundEight (b .turn .holder) (b .clock .crossings) (boardCommanded b rec .ptcs) ≡ true
 unfolding soundEight boardCommanded commandIn
 eight-commanded b rec p =
@@ -180,10 +165,6 @@ pub record Fit (b : Board) : Type 0 where
 fresh-clock-sound : (orbit : ℕ) → 0 < orbit → soundClock LIFETIME orbit freshClock ≡ true
 unfolding soundClock
 fresh-clock-sound orbit h = rw (lt-ltb 0 orbit h)
-
-fresh-eight-sound : (holder : ℕ) → soundEight holder 0 (replicate 8 freshPtc) ≡ true
-unfolding soundEight allI soundPtc soundState soundCounts
-fresh-eight-sound holder = refl
 
 module _ (s : Settings) (ok : checked s ≡ DONE) where
   pub fresh-sound : soundBoard (freshBoard s) ≡ true

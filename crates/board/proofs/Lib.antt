@@ -1,5 +1,4 @@
 pub mod Settled
-pub mod Eight
 pub mod Crossings
 pub mod Cut
 pub mod Keeps

@@ -29,13 +29,13 @@ use Rattle.records.specs.Refusal.{LIFETIME}
 use Rattle.records.proofs.Laws.{rec-long, rec-byte, rec-bytes, lent, well-at, same-codes}
 use Rattle.records.proofs.Laid.{laid}
 use Rattle.board.specs.declared.Board.{Board}
-use Rattle.board.specs.declared.Kit.{Kit}
-use Rattle.board.specs.Kit.{kitOf}
+use Rattle.kit.specs.declared.Kit.{Kit}
+use Rattle.kit.specs.support.Laid.{kitOf}
 use Rattle.board.specs.Run.{stepped, rowOf, ran, rowsOf}
 use Rattle.board.specs.Sound.{soundBoard}
-use Rattle.board.specs.support.Still.{calmUnder, stillRow, plainCrossing}
+use Rattle.still.specs.support.Still.{calmUnder, stillRow, plainCrossing}
 use Rattle.board.proofs.Settled.{sound-parts}
-use Rattle.board.proofs.Eight.{room-at}
+use Rattle.eight.proofs.Eight.{room-at}
 use Rattle.board.proofs.Crossings.{coded, clock-room, scene-asked, classes-is}
 use Rattle.board.proofs.Keeps.{Fit, ran-settings, ran-room, ran-ptcs-long, ran-fit, row-of-long, rows-long}
 use Rattle.board.proofs.Calm.{holding, loneScene, loneOf, plain-low, plain-kind, board-still, row-still, calm-stays, row-stays}

@@ -9,7 +9,7 @@ use Rattle.clock.specs.Clock.{freshClock}
 use Rattle.clock.specs.Turn.{freshTurn}
 use Rattle.board.specs.declared.Board.{Board}
 use Rattle.board.specs.declared.Made.{Made}
-use Rattle.board.specs.Kit.{slotsOf}
+use Rattle.kit.specs.Kit.{slotsOf}
 use Rattle.ptc.specs.Fresh.{freshPtc}
 
 -- it expects 0; the lowest controller with a slot holds it; every controller in state 0, waits and counts 0, no cycle and no marks

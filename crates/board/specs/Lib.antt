@@ -1,8 +1,6 @@
-pub mod Kit
 pub mod Crossing
 pub mod Command
 pub mod Run
 pub mod Sound
 pub mod Fresh
 pub mod Block
-pub mod support

@@ -1,10 +1,10 @@
 // The board: settings, clock, slot, eight controllers and marks, through one crossing, one command and one block of records.
 mod sound;
-mod still;
 
 use answer::Answer;
 use clock::Clock;
 use clock::Turn;
+use kit::Kit;
 use ptc::Plan;
 use ptc::Ptc;
 use ptc::Scene;
@@ -13,27 +13,26 @@ use records::ROW;
 use settings::Rules;
 use settings::Settings;
 use settings::Waits;
-use status::Merger;
 ghost use mathlib.Core.Path.{_≡_};
 ghost use mathlib.Core.Bool.{true, false};
 ghost use mathlib.Core.List.{_++_};
-ghost use Prim.Native.Nat.{_+_, _*_, _%_, _<_, _≤_};
-ghost use lib.Dec.{eqb};
+ghost use Prim.Native.Nat.{_+_, _*_, _<_, _≤_};
 ghost use lib.ListN.{length, drop};
-ghost use Rattle.laws.specs.Base.{if, mapI};
+ghost use Rattle.laws.specs.Base.{mapI};
 ghost use Rattle.answer.specs.Told.{told, DONE};
 ghost use Rattle.settings.specs.Names.{rulesOf, warnBlocksOf, waitsOf};
 ghost use Rattle.settings.specs.Check.{checked};
 ghost use Rattle.throttle.specs.Rules.{Sensible};
-ghost use Rattle.clock.specs.support.Room.{ClockRoom};
 ghost use Rattle.records.specs.Refusal.{LIFETIME};
 ghost use Rattle.status.specs.Merge.{classes as classesOf};
 ghost use Rattle.records.specs.Records.{well, isCrossing, codesIn, firstIll, crossingsIn};
-ghost use Rattle.board.specs.Kit.{slotsOf, planOf, kitOf};
-ghost use Rattle.board.specs.Crossing.{withPtcs, sceneAt, ptcOf, byteOf, shownOf, clockOf, passedOn, boardCrossed, rowCrossed};
+ghost use Rattle.kit.specs.support.Laid.{kitOf};
+ghost use Rattle.board.specs.Crossing.{withPtcs, sceneAt, passedOn, boardCrossed, rowCrossed};
+ghost use Rattle.eight.specs.Eight.{ptcOf, byteOf, shownOf};
 ghost use Rattle.board.specs.Command.{boardCommanded, rowCommanded};
 ghost use Rattle.board.specs.Run.{stepped, rowOf, ran, rowsOf};
-ghost use Rattle.board.specs.Sound.{soundEight, soundBoard};
+ghost use Rattle.eight.specs.Eight.{soundEight};
+ghost use Rattle.board.specs.Sound.{soundBoard};
 ghost use Rattle.board.specs.Fresh.{freshBoard, madeOut, freshOf};
 ghost use Rattle.board.specs.Block.{ranOut, answerOf, blockOf};
 
@@ -58,66 +57,12 @@ pub struct Ran {
     pub board: Board,
 }
 
-// What of the settings a crossing goes by, made once for a block.
-struct Kit {
-    pub orbit: u32,
-    pub plan: Plan,
-    pub rules: Rules,
-    pub blocks: bool,
-    pub merger: Merger,
-    pub slots: [u32; 8],
-}
-
-fn slots_of(s: Settings) -> [u32; 8]
-    ensures { λ r. ⌜ r ≡ slotsOf s ⌝ }
-{
-    let mut slots = [0u32; 8];
-    let mut k = 0;
-    while k < 8 {
-        slots[k] = s.slot(k);
-        k += 1;
-    }
-    slots
-}
-
-fn plan_of(s: Settings) -> Plan
-    ensures { λ r. ⌜ r ≡ planOf s ⌝ }
-{
-    let at = s.schedule();
-    let waits = s.waits();
-    let gap = s.gap();
-    Plan {
-        at: at,
-        waits: waits,
-        gap: gap,
-    }
-}
-
-impl Kit {
-    fn of(s: Settings) -> Kit
-        ensures { λ r. ⌜ r ≡ kitOf s ⌝ }
-    {
-        let plan = plan_of(s);
-        let rules = s.rules();
-        let merger = Merger::of(s);
-        let slots = slots_of(s);
-        Kit {
-            orbit: s.orbit(),
-            plan: plan,
-            rules: rules,
-            blocks: s.warn_blocks(),
-            merger: merger,
-            slots: slots,
-        }
-    }
-}
-
 // A board from settings that pass the checks.
 fn from_checked(s: Settings) -> Board
     requires { ⌜ checked s ≡ DONE ⌝ }
     ensures { λ r. ⌜ r ≡ freshBoard s ⌝ }
 {
-    let slots = slots_of(s);
+    let slots = kit::slots_of(s);
     let clock = Clock {
         crossings: 0,
         next: 0,
@@ -132,27 +77,6 @@ fn from_checked(s: Settings) -> Board
         turn: turn,
         ptcs: [ptc; 8],
         marks: [0u64; 32],
-    }
-}
-
-// Controller 0's code 8 sets the orbit count to 0.
-fn orbit_count(first: u8, orbit: u64) -> u64
-    ensures { λ r. ⌜ r ≡ if (eqb (first % 16) 8) 0 orbit ⌝ }
-{
-    if first % 16 == 8 { 0 } else { orbit }
-}
-
-// The clock after a crossing whose row has these bytes.
-fn clock_after(clock: Clock, orbit: u32, marker: bool, bytes: [u8; 8]) -> Clock
-    requires { ⌜ ClockRoom clock ⌝ }
-    ensures { λ r. ⌜ r ≡ clockOf orbit clock marker bytes ⌝ }
-{
-    let t = clock.ticked(orbit, marker);
-    Clock {
-        crossings: t.crossings,
-        next: t.next,
-        orbits: orbit_count(bytes[0], t.orbits),
-        errors: t.errors,
     }
 }
 
@@ -247,7 +171,7 @@ impl Board {
         let mut shown = [0u8; 8];
         let next = self.act(kit.plan, scene, classes, rec[2], &mut bytes, &mut shown);
         records::put_row(rows, records::crossing_row(bytes, shown));
-        let after = clock_after(clock, kit.orbit, marker, bytes);
+        let after = eight::clock_after(clock, kit.orbit, marker, bytes);
         next.passed_on(after, turn, records::carries(bytes))
     }
 
@@ -311,8 +235,9 @@ impl Board {
             classes = merged;
             self = self.step(kit, classes, &log[at..at + RECORD], &mut rows[ROW * i..]);
             i += 1;
-            calm = self.is_calm(classes, still::is_followed(log, i, n));
-            let quiet = self.still_row(calm);
+            let ptcs = self.ptcs;
+            calm = still::is_calm(ptcs, classes, still::is_followed(log, i, n));
+            let quiet = still::still_row(ptcs, calm);
             row = quiet;
         }
         self

@@ -11,7 +11,8 @@ use Rattle.clock.specs.declared.Turn.{Turn}
 use Rattle.clock.specs.Clock.{tickedOf}
 use Rattle.records.specs.Records.{recAt, isCrossing, markerIn}
 use Rattle.board.specs.declared.Board.{Board}
-use Rattle.board.specs.Crossing.{turnIn, sceneOf, clockOf, boardCrossed}
+use Rattle.board.specs.Crossing.{turnIn, sceneOf, boardCrossed}
+use Rattle.eight.specs.Eight.{clockOf}
 use Rattle.board.specs.Command.{boardCommanded}
 use Rattle.board.specs.Run.{stepped, ran}
 use Rattle.board.specs.Fresh.{freshBoard}

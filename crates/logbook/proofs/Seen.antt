@@ -24,8 +24,9 @@ use Rattle.records.specs.Records.{recAt, markerIn, askedIn, codesIn}
 use Rattle.records.specs.Rows.{rowByte}
 use Rattle.records.proofs.Laws.{byte-code, byte-fires}
 use Rattle.board.specs.declared.Board.{Board}
-use Rattle.board.specs.Kit.{planOf}
-use Rattle.board.specs.Crossing.{sceneOf, actOf, byteOf, shownOf, eight, boardCrossed, rowCrossed}
+use Rattle.kit.specs.Kit.{planOf}
+use Rattle.board.specs.Crossing.{sceneOf, eight, boardCrossed, rowCrossed}
+use Rattle.eight.specs.Eight.{actOf, byteOf, shownOf}
 use Rattle.ptc.specs.Fresh.{freshPtc}
 use Rattle.board.specs.Run.{stepped, rowOf, ran}
 use Rattle.board.specs.Fresh.{freshBoard}

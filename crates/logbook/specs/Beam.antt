@@ -9,7 +9,7 @@ use Rattle.clock.specs.declared.Turn.{Turn}
 use Rattle.clock.specs.Clock.{numberOf, orbitEnds, tickedOf, freshClock}
 use Rattle.clock.specs.Turn.{turnedOf, freshTurn}
 use Rattle.records.specs.Records.{recAt, isCrossing, markerIn}
-use Rattle.board.specs.Kit.{slotsOf}
+use Rattle.kit.specs.Kit.{slotsOf}
 
 -- the clock, whose orbit count is not looked at, and whose slot it is
 pub record Beam : Type 0 where

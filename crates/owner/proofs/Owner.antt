@@ -15,7 +15,7 @@ use Rattle.laws.proofs.Tests.{either, same-or-not}
 use Rattle.settings.specs.declared.Settings.{Settings}
 use Rattle.ptc.proofs.Triggers.{SentIs, CalIs, sent-is, cal-is, never-both}
 use Rattle.records.specs.Records.{recAt, askedIn}
-use Rattle.board.specs.Kit.{slotsOf, planOf}
+use Rattle.kit.specs.Kit.{slotsOf, planOf}
 use Rattle.logbook.specs.Row.{rowAt, sentIn, calIn, sendsIn, triggersOf}
 use Rattle.logbook.specs.Whole.{Taken, Crossing, whole}
 use Rattle.logbook.proofs.Seen.{sceneIn, ptcIn, classIn, sent-told, cal-told, runs-told}

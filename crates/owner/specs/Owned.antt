@@ -9,7 +9,7 @@ use Rattle.settings.specs.declared.Settings.{Settings}
 use Rattle.settings.specs.Names.{gapOf}
 use Rattle.ptc.specs.Counts.{inGap}
 use Rattle.records.specs.Records.{recAt, askedIn}
-use Rattle.board.specs.Kit.{slotsOf}
+use Rattle.kit.specs.Kit.{slotsOf}
 use Rattle.logbook.specs.Row.{rowAt, sentIn, calIn, sendsIn, triggersIn, runsIn}
 use Rattle.logbook.specs.Whole.{Taken, Crossing, whole}
 use Rattle.slots.specs.Orbits.{numberBy, orbitEndsIn, holderBy}

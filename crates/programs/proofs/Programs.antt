@@ -27,7 +27,8 @@ use Rattle.ptc.specs.Crossing.{crossedOf}
 use Rattle.records.specs.Records.{askedIn, wellCrossing, wellCommand, well, crossingsIn}
 use Rattle.records.specs.Refusal.{recordsIn, refusalOf}
 use Rattle.board.specs.declared.Board.{Board}
-use Rattle.board.specs.Crossing.{actOf, boardCrossed}
+use Rattle.eight.specs.Eight.{actOf}
+use Rattle.board.specs.Crossing.{boardCrossed}
 use Rattle.board.specs.Run.{stepped, ran}
 use Rattle.board.specs.Sound.{soundBoard}
 use Rattle.board.specs.Fresh.{freshBoard, freshOf}

@@ -14,7 +14,8 @@ use Rattle.ptc.specs.Crossing.{crossedOf}
 use Rattle.ptc.specs.Cycle.{keptOf, openedOf, cycleCode, asksOf}
 use Rattle.records.specs.Records.{askedIn}
 use Rattle.records.specs.Rows.{rowByte, crossingRow, carries}
-use Rattle.board.specs.Crossing.{turnIn, actOf, byteOf, clockOf}
+use Rattle.board.specs.Crossing.{turnIn}
+use Rattle.eight.specs.Eight.{actOf, byteOf, clockOf}
 use Rattle.board.specs.Command.{commandIn, boardCommanded}
 use Rattle.board.specs.Run.{stepped}
 use Rattle.board.specs.Fresh.{freshBoard}

@@ -25,8 +25,9 @@ use Rattle.ptc.specs.declared.Scene.{Scene}
 use Rattle.records.specs.Records.{codesIn}
 use Rattle.records.specs.Rows.{crossingRow, carries}
 use Rattle.board.specs.declared.Board.{Board}
-use Rattle.board.specs.Kit.{planOf}
-use Rattle.board.specs.Crossing.{withPtcs, turnIn, sceneOf, ptcOf, byteOf, shownOf, clockOf, passedOn, boardCrossed, rowCrossed}
+use Rattle.kit.specs.Kit.{planOf}
+use Rattle.board.specs.Crossing.{withPtcs, turnIn, sceneOf, passedOn, boardCrossed, rowCrossed}
+use Rattle.eight.specs.Eight.{ptcOf, byteOf, shownOf, clockOf}
 use Rattle.board.specs.Run.{stepped, rowOf}
 use Rattle.runup.specs.Crossings.{crossingWith, tells, later}
 

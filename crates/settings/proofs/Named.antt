@@ -2,7 +2,7 @@
 -- Where the line is, is computed; for the eight slots and the 32 partitions by a test over all of them.
 use mathlib.Core.Path.{_≡_, refl, ap, sym, _∙_}
 use mathlib.Core.Bool.{Bool, true}
-use mathlib.Core.List.{List, _++_}
+use mathlib.Core.List.{_++_}
 use Prim.Native.Nat.{ℕ, _+_, _<_}
 use Prim.Native.String.{String}
 use native.Mathlib.Nat.{zero-add}

@@ -16,7 +16,7 @@ use Rattle.settings.specs.Names.{orbitOf}
 use Rattle.settings.proofs.Bounds.{bounded}
 use Rattle.clock.specs.Clock.{orbitEnds, nextOf, tickedOf}
 use Rattle.records.specs.Records.{recAt, isCrossing, markerIn, crossingsIn}
-use Rattle.board.specs.Kit.{slotsOf}
+use Rattle.kit.specs.Kit.{slotsOf}
 use Rattle.logbook.specs.Beam.{handedOver, beamPast, beamAt, numberIn, holderIn}
 use Rattle.logbook.specs.Whole.{Taken, Crossing}
 use Rattle.logbook.proofs.Beams.{number-told, holder-told}

@@ -8,7 +8,7 @@ use Rattle.laws.specs.Base.{if, one}
 use Rattle.settings.specs.declared.Settings.{Settings}
 use Rattle.settings.specs.Names.{orbitOf}
 use Rattle.records.specs.Records.{recAt, isCrossing, markerIn, crossingsIn}
-use Rattle.board.specs.Kit.{slotsOf}
+use Rattle.kit.specs.Kit.{slotsOf}
 use Rattle.slots.specs.Round.{holderAfter}
 
 -- of the first n records, how many are crossings, from the last marker's own on; from the start, where there was no marker

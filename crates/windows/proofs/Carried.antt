@@ -22,7 +22,8 @@ use Rattle.ptc.specs.Crossing.{freeIn}
 use Rattle.records.specs.Records.{recAt}
 use Rattle.records.specs.Rows.{carries}
 use Rattle.board.specs.declared.Board.{Board}
-use Rattle.board.specs.Crossing.{sceneOf, byteOf, eight}
+use Rattle.board.specs.Crossing.{sceneOf, eight}
+use Rattle.eight.specs.Eight.{byteOf}
 use Rattle.board.specs.Run.{ran}
 use Rattle.board.specs.Fresh.{freshBoard}
 use Rattle.logbook.specs.Row.{rowAt, sentIn, calIn, sendsIn, triggersOf, triggersIn, warnsIn}

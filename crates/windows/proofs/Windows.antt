@@ -27,7 +27,8 @@ use Rattle.records.specs.Records.{recAt, isCrossing}
 use Rattle.records.specs.Rows.{carries}
 use Rattle.records.specs.Refusal.{recordsIn}
 use Rattle.board.specs.declared.Board.{Board}
-use Rattle.board.specs.Crossing.{byteOf, eight, boardCrossed}
+use Rattle.eight.specs.Eight.{byteOf}
+use Rattle.board.specs.Crossing.{eight, boardCrossed}
 use Rattle.board.specs.Command.{boardCommanded}
 use Rattle.board.specs.Run.{stepped, ran}
 use Rattle.board.specs.Fresh.{freshBoard}

@@ -2,7 +2,7 @@
 -- Settings that pass the check have slots that the turn can count with.
 use borrow.Author.Needs.{needs}
 use Rattle.board.specs.Fresh.{freshBoard}
-use Rattle.board.proofs.Settled.{slot-room}
+use Rattle.kit.proofs.Settled.{slot-room}
 use Rattle.board.proofs.from_checked.Statement.{statement}
 use Rattle.board.proofs.from_checked.Tie as tie
 

@@ -12,9 +12,10 @@ use Rattle.laws.proofs.Over.{over, over-read, over-turn, over-whole}
 use Rattle.ptc.specs.declared.Ptc.{Ptc}
 use Rattle.ptc.specs.declared.Crossed.{Crossed}
 use Rattle.board.specs.declared.Board.{Board}
-use Rattle.board.specs.Crossing.{withPtcs, actOf, ptcOf, byteOf, shownOf}
+use Rattle.board.specs.Crossing.{withPtcs}
+use Rattle.eight.specs.Eight.{actOf, ptcOf, byteOf, shownOf}
 use Rattle.ptc.specs.Fresh.{freshPtc}
-use Rattle.board.proofs.Eight.{acted, acted-byte, acted-shown, acted-code, room-at}
+use Rattle.eight.proofs.Eight.{acted, acted-byte, acted-shown, acted-code, room-at}
 use Rattle.board.proofs.Board.act.Statement.{statement}
 use Rattle.board.proofs.Board.act.Tie as tie
 

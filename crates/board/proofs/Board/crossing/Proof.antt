@@ -10,9 +10,11 @@ use Rattle.ptc.specs.declared.Ptc.{Ptc}
 use Rattle.ptc.specs.declared.Plan.{Plan}
 use Rattle.ptc.specs.declared.Scene.{Scene}
 use Rattle.records.specs.Records.{markerIn}
-use Rattle.board.specs.Crossing.{turnIn, sceneOf, actOf, ptcOf, byteOf, shownOf, eight}
+use Rattle.board.specs.Crossing.{turnIn, sceneOf, eight}
+use Rattle.eight.specs.Eight.{actOf, ptcOf, byteOf, shownOf}
 use Rattle.board.proofs.Settled.{sound-parts}
-use Rattle.board.proofs.Crossings.{shown-low, clock-room, turn-asked, scene-asked, scene-is, row-is, turn-is, eight-is, board-is}
+use Rattle.eight.proofs.Eight.{shown-low}
+use Rattle.board.proofs.Crossings.{clock-room, turn-asked, scene-asked, scene-is, row-is, turn-is, eight-is, board-is}
 use Rattle.board.proofs.Board.crossing.Statement.{statement}
 use Rattle.board.proofs.Board.crossing.Tie as tie
 

@@ -13,9 +13,10 @@ use Rattle.clock.specs.Clock.{soundClock}
 use Rattle.clock.specs.Turn.{soundTurn}
 use Rattle.records.specs.Refusal.{LIFETIME}
 use Rattle.board.specs.declared.Board.{Board}
-use Rattle.board.specs.Kit.{slotsOf}
+use Rattle.kit.specs.Kit.{slotsOf}
 use Rattle.board.specs.Sound.{soundBoard}
-use Rattle.board.proofs.Settled.{slot-room, within-life}
+use Rattle.kit.proofs.Settled.{slot-room}
+use Rattle.board.proofs.Settled.{within-life}
 use Rattle.board.proofs.Board.is_sound.Statement.{statement}
 use Rattle.board.proofs.Board.is_sound.Tie as tie
 
@@ -84,26 +85,26 @@ returns-3 c =
     let k = c .before .before .before .before .before in
     rw (checks (k .before .before .before .before), clock-on k, told-turn (c .before) ∙ not-true _ (c .if3 .taken))
 
-is-eight-sound-requires : tie.Need-is-eight-sound-requires
-is-eight-sound-requires c κs = omega (arith, within-life _ _ (clock-on (c .before .before .before .before .before)))
+are-sound-requires : tie.Need-are-sound-requires
+are-sound-requires c κs = omega (arith, within-life _ _ (clock-on (c .before .before .before .before .before .before)))
 
 returns-4 : tie.Need-returns-4
 unfolding soundBoard
 returns-4 c =
-    let t = c .before .before in
+    let t = c .before .before .before in
     let k = t .before .before .before .before .before in
-    rw (checks (k .before .before .before .before), clock-on k, turn-on t, sym (c .before .is-eight-sound .ensures) ∙ not-true _ (c .if4 .taken))
+    rw (checks (k .before .before .before .before), clock-on k, turn-on t, sym (c .before .are-sound .ensures) ∙ not-true _ (c .if4 .taken))
 
 is-sound-requires-3 : tie.Need-is-sound-requires-3
-is-sound-requires-3 c κs = omega (arith, within-life _ _ (clock-on (c .before .before .before .before .before .before .before .before .before)))
+is-sound-requires-3 c κs = omega (arith, within-life _ _ (clock-on (c .before .before .before .before .before .before .before .before .before .before)))
 
 returns-5 : tie.Need-returns-5
 unfolding soundBoard
 returns-5 c =
     let e = c .before .before .before in
-    let t = e .before .before in
+    let t = e .before .before .before in
     let k = t .before .before .before .before .before in
-    rw (checks (k .before .before .before .before), clock-on k, turn-on t, sym (e .before .is-eight-sound .ensures) ∙ not-false _ (e .if4 .left)) (c .is-sound3 .ensures)
+    rw (checks (k .before .before .before .before), clock-on k, turn-on t, sym (e .before .are-sound .ensures) ∙ not-false _ (e .if4 .left)) (c .is-sound3 .ensures)
 
 pub is-sound-spec : {M : Type 1} → statement M
 is-sound-spec =
@@ -118,7 +119,7 @@ is-sound-spec =
     slots-of-requires
     is-sound-requires-2
     returns-3
-    is-eight-sound-requires
+    are-sound-requires
     returns-4
     is-sound-requires-3
     returns-5)

@@ -232,7 +232,7 @@ add-i-2 c = search (needs, fits (begin (c .before .before)))
 
 is-followed-requires : tie.Need-is-followed-requires Inv-loop μ-loop
 is-followed-requires c κs =
-    let t = begin (c .before .before) in
+    let t = begin (c .before .before .before) in
     (omega arith, start t .pre .1, omega (arith, t .loop-test .taken))
 
 is-calm-requires : tie.Need-is-calm-requires Inv-loop μ-loop
@@ -246,7 +246,7 @@ loop-less-2 c = search needs
 
 loop-again-2 : tie.Need-loop-again-2 Inv-loop μ-loop
 loop-again-2 c =
-    let r = c .before .before .before .before .before in
+    let r = c .before .before .before .before .before .before in
     let t = begin r in
     let l = t .before .loop in
     let a = start t in

@@ -2,7 +2,7 @@
 -- What the way asks is what the step asks, and its answer is the definition's arm.
 use borrow.Author.Tests.{eq-eqb, ne-eqb}
 use borrow.Author.Needs.{needs}
-use Rattle.board.specs.Kit.{kitOf}
+use Rattle.kit.specs.support.Laid.{kitOf}
 use Rattle.board.specs.Run.{stepped, rowOf}
 use Rattle.board.proofs.Board.step.Statement.{statement}
 use Rattle.board.proofs.Board.step.Tie as tie

@@ -1,0 +1,36 @@
+-- `Kit::of` meets its contract: its six parts, each as its call ensures it.
+-- A literal of six calls' results.
+use borrow.Author.Needs.{needs}
+use Rattle.kit.specs.support.Laid.{kitOf}
+use Rattle.kit.proofs.Kit.of.Statement.{statement}
+use Rattle.kit.proofs.Kit.of.Tie as tie
+
+plan-of-requires : tie.Need-plan-of-requires
+plan-of-requires c κs = search needs
+
+rules-requires : tie.Need-rules-requires
+rules-requires c κs = search needs
+
+of-requires : tie.Need-of-requires
+of-requires c κs = search needs
+
+slots-of-requires : tie.Need-slots-of-requires
+slots-of-requires c κs = search needs
+
+orbit-requires : tie.Need-orbit-requires
+orbit-requires c κs = search needs
+
+warn-blocks-requires : tie.Need-warn-blocks-requires
+warn-blocks-requires c κs = search needs
+
+returns : tie.Need-returns
+unfolding kitOf
+returns c =
+    let slots = c .before .before in
+    let rules = slots .before .before in
+    rw (c .warn-blocks .ensures, c .before .orbit .ensures, slots .slots-of .ensures, slots .before .of .ensures, rules .rules .ensures, rules .before .plan-of .ensures)
+
+pub of-spec : {M : Type 1} → statement M
+of-spec =
+    tie.close
+    (tie.spec plan-of-requires rules-requires of-requires slots-of-requires orbit-requires warn-blocks-requires returns)
