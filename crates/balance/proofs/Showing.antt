@@ -5,7 +5,7 @@ use mathlib.Core.Logic.{⊎-elim}
 use mathlib.Core.Bool.{Bool, true, false, _&&_, false≢true}
 use Prim.Native.Nat.{ℕ, _≤_}
 use native.Mathlib.Omega.{arith}
-use borrow.Author.Tests.{eqb-true, ne-eqb, ltb-false}
+use borrow.Author.Tests.{eqb-true, ne-eqb}
 use lib.Dec.{eqb, ltb}
 use Rattle.laws.specs.Base.{if}
 use Rattle.laws.proofs.Bools.{both, if-has}
@@ -21,6 +21,7 @@ use Rattle.ptc.specs.declared.Plan.{Plan}
 use Rattle.ptc.specs.declared.Scene.{Scene}
 use Rattle.ptc.specs.Cycle.{ARMED, OPEN, keptOf, openedOf, cycleCode}
 use Rattle.ptc.specs.Crossing.{codeOf, crossedOf}
+use Rattle.ptc.proofs.Codes.{code-of-move}
 
 -- ---- the code of a move
 
@@ -51,18 +52,6 @@ tells-opening move orbit true te low other free = rw (free refl .0, free refl .1
 tells-opening move orbit false te low other free =
     if-has (Other 13) (ltb 0 move) move _ (λ e. ne-eqb move 13 (omega arith))
     (λ e. if-has (Other 13) (ltb 0 orbit) orbit _ (λ e. other) (λ e. if-has (Other 13) te 2 0 (λ e. refl) (λ e. refl)))
-
--- 7 is a move's code alone
-tells-seven : (move orbit : ℕ) (opening te : Bool) → eqb orbit 7 ≡ false → eqb (codeOf move orbit (if opening 13 (if te 2 0))) 7 ≡ eqb move 7
-tells-seven move orbit opening te other =
-    ⊎-elim
-    (λ (e : ltb 0 move ≡ true). rw e)
-    (λ (e : ltb 0 move ≡ false).
-    let none : move ≡ 0 = omega (arith, ltb-false 0 move e) in
-    rw none
-    (if-has (Other 7) (ltb 0 orbit) orbit _ (λ e. other)
-    (λ e. if-has (Other 7) opening 13 _ (λ e. refl) (λ e. if-has (Other 7) te 2 0 (λ e. refl) (λ e. refl)))))
-    (either (ltb 0 move))
 
 -- ---- where a cycle opens
 
@@ -108,8 +97,6 @@ module _ (plan : Plan) (scene : Scene) (k class : ℕ) (asked : Bool) (p : Ptc) 
         rw here (orbit-none (plan .at) away later),
       ))
 
+  -- 7 is a move's code alone
   pub code-restarts : eqb (crossedOf plan scene k class asked p .code) 7 ≡ eqb (moved .code) 7
-  unfolding crossedOf cycleCode
-  code-restarts =
-      tells-seven (moved .code) (orbitCode (plan .at) (scene .number)) (eqb kept ARMED && eqb cycle OPEN)
-      (eqb cycle OPEN && eqb (scene .number) (plan .at .te)) (orbit-other 7 refl refl refl (plan .at) (scene .number))
+  code-restarts = code-of-move 7 (record { none = refl; bc0 = refl; gap = refl; opens = refl; te = refl }) plan scene k class asked p

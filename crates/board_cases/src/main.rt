@@ -5,7 +5,6 @@
 // a block with a rows buffer of that length, and goes on with the board that it leaves. `f` makes a fresh board of the settings.
 mod boards;
 
-use answer::Answer;
 use board::Board;
 use boards::are_same_settings;
 use boards::byte;
@@ -14,11 +13,13 @@ use boards::set_clock;
 use boards::set_mark;
 use boards::set_ptc;
 use boards::set_setting;
+use cases::after;
+use cases::line_end;
+use cases::say;
+use cases::say_answer;
 use libc::STDIN_FILENO;
-use libc::STDOUT_FILENO;
 use settings::Settings;
-ghost use mathlib.Core.Path.{_≡_};
-ghost use Prim.Native.Nat.{_+_, _<_, _≤_, min};
+ghost use Prim.Native.Nat.{_<_, _≤_};
 ghost use lib.ListN.{length};
 
 // The log that the lines have made: the first `long` bytes.
@@ -36,59 +37,8 @@ struct Words {
     d: u64,
 }
 
-fn say(text: &[u8]) {
-    io::write_all(STDOUT_FILENO, text);
-}
-
 fn end_line() {
     say(b"\n");
-}
-
-fn say_number(before: &[u8], n: u64) {
-    io::write_all(STDOUT_FILENO, before);
-    io::print_decimal(STDOUT_FILENO, n);
-}
-
-fn say_carried(value: usize) {
-    say_number(b" carries ", value as u64);
-}
-
-fn say_answer(a: Answer) {
-    say_number(b"answer ", a.number());
-    match a {
-        Answer::Done => {}
-        Answer::Text(line) => say_carried(line),
-        Answer::Range(line) => say_carried(line),
-        Answer::Relation(which) => say_carried(which),
-        Answer::Board => {}
-        Answer::Length => {}
-        Answer::Room(needed) => say_carried(needed),
-        Answer::Record(index) => say_carried(index),
-        Answer::Life => {}
-    }
-}
-
-// Where the line that begins at a place ends, before its newline.
-fn line_end(text: &[u8], at: usize) -> usize
-    requires { ⌜ at ≤ length (now text) ⌝ }
-    ensures { λ r. ⌜ (at ≤ r) × (r ≤ length (now (text .entry))) ⌝ }
-{
-    let mut end = at;
-    while end < text.len() {
-        if text[end] == 10 {
-            return end;
-        }
-        end += 1;
-    }
-    end
-}
-
-// The place after a newline, or the text's end.
-fn after(text: &[u8], end: usize) -> usize
-    requires { ⌜ end ≤ length (now text) ⌝ }
-    ensures { λ r. ⌜ r ≡ min (end + 1) (length (now (text .entry))) ⌝ }
-{
-    if end < text.len() { end + 1 } else { end }
 }
 
 // One digit more, of at most 18, where it is asked for; what is no digit changes nothing.
@@ -250,7 +200,7 @@ fn run_block(before: Board, log: &[u8], rows: &mut [u8], room: usize) -> Board
     let a = r.answer;
     let board = r.board;
     let done = a.is_done();
-    say_answer(a);
+    say_answer(b"answer ", a);
     say_left(b", board", is_same(before, board));
     say_written(rows, done, rows_end(done, log.len(), room));
     board
@@ -323,7 +273,7 @@ fn remade(before: Board) -> Board {
     let made = Board::fresh(before.settings);
     let a = made.answer;
     let board = made.board;
-    say_answer(a);
+    say_answer(b"answer ", a);
     say_left(
         b", settings",
         are_same_settings(before.settings, board.settings),

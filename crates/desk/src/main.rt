@@ -1,20 +1,13 @@
 // Replays the log of a bench: reads `board.set` and `run.rec` of the folder that it is run in, and prints the report, or the
 // number of the first refusal. The log goes through one piece of 40 blocks at a time, so memory does not grow with it.
-use answer::Answer;
 use board::Board;
 use libc::STDOUT_FILENO;
-
-fn refuse(a: Answer) {
-    io::write_all(STDOUT_FILENO, b"refused=");
-    io::print_decimal(STDOUT_FILENO, a.number());
-    io::write_all(STDOUT_FILENO, b"\n");
-}
 
 fn print_report(board: Board) {
     let mut text = [0u8; 8192];
     let a = report::write(board, &mut text);
     if !a.is_done() {
-        refuse(a);
+        shell::refuse(a);
         return;
     }
     let n = report::text_length(board);
@@ -32,7 +25,7 @@ fn replay_log(fresh: Board, log: i32) {
         let r = replay::run_blocks(board, &piece[..n], &mut rows);
         let a = r.answer;
         if !a.is_done() {
-            refuse(a);
+            shell::refuse(a);
             return;
         }
         let next = r.board;
@@ -45,19 +38,11 @@ fn replay_log(fresh: Board, log: i32) {
     }
 }
 
-// One byte more than a good text can have decides what a longer text gets.
-fn open_board() -> board::Made {
-    let mut text = [0u8; 1024];
-    let file = os::open_read(b"board.set");
-    let n = io::read_full(file, &mut text);
-    replay::opened(&text[..n])
-}
-
 fn main() {
-    let made = open_board();
+    let made = shell::open_board();
     let a = made.answer;
     if !a.is_done() {
-        refuse(a);
+        shell::refuse(a);
         return;
     }
     let log = os::open_read(b"run.rec");

@@ -2,14 +2,7 @@
 // log, or the number of the first refusal and no row. So the log goes through twice: once to see that it is accepted.
 use answer::Answer;
 use board::Board;
-use board::Made;
 use libc::STDOUT_FILENO;
-
-fn refuse(a: Answer) {
-    io::write_all(STDOUT_FILENO, b"refused=");
-    io::print_decimal(STDOUT_FILENO, a.number());
-    io::write_all(STDOUT_FILENO, b"\n");
-}
 
 fn write_if(wanted: bool, rows: &[u8]) {
     if wanted {
@@ -42,24 +35,16 @@ fn replay_log(fresh: Board, writes: bool) -> Answer {
     Answer::Done
 }
 
-// One byte more than a good text can have decides what a longer text gets.
-fn open_board() -> Made {
-    let mut text = [0u8; 1024];
-    let file = os::open_read(b"board.set");
-    let n = io::read_full(file, &mut text);
-    replay::opened(&text[..n])
-}
-
 fn main() {
-    let made = open_board();
+    let made = shell::open_board();
     let a = made.answer;
     if !a.is_done() {
-        refuse(a);
+        shell::refuse(a);
         return;
     }
     let accepted = replay_log(made.board, false);
     if !accepted.is_done() {
-        refuse(accepted);
+        shell::refuse(accepted);
         return;
     }
     replay_log(made.board, true);

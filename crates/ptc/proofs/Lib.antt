@@ -5,3 +5,4 @@ pub mod Cycles
 pub mod Keeps
 pub mod Triggers
 pub mod Rest
+pub mod Codes

@@ -1,19 +1,12 @@
 // Walks one controller through every state with every merged class and with every command, and prints where it goes.
-use libc::STDOUT_FILENO;
+use cases::say;
+use cases::say_number;
 use ptc::Counts;
 use ptc::Plan;
 use ptc::Ptc;
 use ptc::Scene;
 use settings::Settings;
 ghost use Rattle.ptc.specs.support.Room.{Room};
-
-fn say(text: &[u8]) {
-    io::write_all(STDOUT_FILENO, text);
-}
-
-fn say_number(n: u64) {
-    io::print_decimal(STDOUT_FILENO, n);
-}
 
 fn standard_plan() -> Plan {
     let s = Settings::standard();
@@ -49,20 +42,18 @@ fn say_crossing(k: u32, state: u8, wait: u32, number: u32, class: u8) {
         low: true,
     };
     let r = in_state(state, wait, 0).crossed(standard_plan(), scene, k, class, false);
-    say_number(r.ptc.state as u64);
+    say_number(b"", r.ptc.state as u64);
     if 0 < r.ptc.wait {
-        say(b"w");
-        say_number(r.ptc.wait as u64);
+        say_number(b"w", r.ptc.wait as u64);
     }
     if 0 < r.code {
-        say(b" sends ");
-        say_number(r.code as u64);
+        say_number(b" sends ", r.code as u64);
     }
 }
 
 // A state with each merged class, from none to disconnected, at a number that is no code's.
 fn say_moves(k: u32, state: u8) {
-    say_number(state as u64);
+    say_number(b"", state as u64);
     say(b":");
     let mut class: u8 = 0;
     while class < 8 {
@@ -83,9 +74,8 @@ fn say_all_moves(k: u32) {
 
 // A state at a number, with merged class ready.
 fn say_at(state: u8, wait: u32, number: u32) {
-    say_number(state as u64);
-    say(b" at ");
-    say_number(number as u64);
+    say_number(b"", state as u64);
+    say_number(b" at ", number as u64);
     say(b": ");
     say_crossing(0, state, wait, number, 1);
     say(b"\n");
@@ -120,21 +110,18 @@ fn say_command(state: u8, cycle: u8, command: u8) {
         say(b" -");
         return;
     }
-    say(b" ");
-    say_number(r.ptc.state as u64);
+    say_number(b" ", r.ptc.state as u64);
     if 0 < r.ptc.wait {
-        say(b"w");
-        say_number(r.ptc.wait as u64);
+        say_number(b"w", r.ptc.wait as u64);
     }
     if 0 < r.ptc.cycle {
-        say(b"c");
-        say_number(r.ptc.cycle as u64);
+        say_number(b"c", r.ptc.cycle as u64);
     }
 }
 
 // A state with each command, 0 and 7 among them, which are none.
 fn say_commands(state: u8, cycle: u8) {
-    say_number(state as u64);
+    say_number(b"", state as u64);
     say(b":");
     let mut command: u8 = 0;
     while command < 8 {
@@ -155,8 +142,7 @@ fn say_all_commands(cycle: u8) {
 fn say_statuses() {
     let mut state: u8 = 0;
     while state < 20 {
-        say(b" ");
-        say_number(states::status(state) as u64);
+        say_number(b" ", states::status(state) as u64);
         state += 1;
     }
     say(b"\n");

@@ -2,65 +2,21 @@
 // Standard input has three lines for each text that is read: the case's name, a part of the standard text, and what is put
 // in its place. In these a `/` stands for a newline and a `^` for a carriage return.
 use answer::Answer;
+use cases::after;
+use cases::line_end;
+use cases::say;
+use cases::say_answer;
+use cases::say_number;
 use libc::STDIN_FILENO;
-use libc::STDOUT_FILENO;
 use settings::Settings;
-ghost use mathlib.Core.Path.{_≡_};
-ghost use Prim.Native.Nat.{_+_, _≤_, min};
+ghost use Prim.Native.Nat.{_≤_};
 ghost use lib.ListN.{length};
 
-fn say(text: &[u8]) {
-    io::write_all(STDOUT_FILENO, text);
-}
-
-fn say_number(before: &[u8], n: u64) {
-    io::write_all(STDOUT_FILENO, before);
-    io::print_decimal(STDOUT_FILENO, n);
-}
-
-fn say_carried(value: usize) {
-    say_number(b" carries ", value as u64);
-}
-
-// The name of the case, the refusal's number or 0, and what it carries.
-fn say_answer(name: &[u8], a: Answer) {
+// A line: the name of the case, and its answer.
+fn say_case(name: &[u8], a: Answer) {
     say(name);
-    say_number(b": ", a.number());
-    match a {
-        Answer::Done => {}
-        Answer::Text(line) => say_carried(line),
-        Answer::Range(line) => say_carried(line),
-        Answer::Relation(which) => say_carried(which),
-        Answer::Board => {}
-        Answer::Length => {}
-        Answer::Room(needed) => say_carried(needed),
-        Answer::Record(index) => say_carried(index),
-        Answer::Life => {}
-    }
+    say_answer(b": ", a);
     say(b"\n");
-}
-
-// Where the line that begins at a place ends, before its newline.
-fn line_end(text: &[u8], at: usize) -> usize
-    requires { ⌜ at ≤ length (now text) ⌝ }
-    ensures { λ r. ⌜ (at ≤ r) × (r ≤ length (now (text .entry))) ⌝ }
-{
-    let mut end = at;
-    while end < text.len() {
-        if text[end] == 10 {
-            return end;
-        }
-        end += 1;
-    }
-    end
-}
-
-// The place after a newline, or the text's end.
-fn after(text: &[u8], end: usize) -> usize
-    requires { ⌜ end ≤ length (now text) ⌝ }
-    ensures { λ r. ⌜ r ≡ min (end + 1) (length (now (text .entry))) ⌝ }
-{
-    if end < text.len() { end + 1 } else { end }
 }
 
 fn plain(b: u8) -> u8 {
@@ -134,7 +90,7 @@ fn read_edited(name: &[u8], old: &[u8], new: &[u8], standard: &mut [u8], text: &
     let m = replaced(&standard[..n], old, new, text);
     let r = Settings::read(&text[..m]);
     let a = r.answer;
-    say_answer(name, a);
+    say_case(name, a);
 }
 
 fn read_case(name: &[u8], old: &[u8], new: &[u8]) {
@@ -179,7 +135,7 @@ fn write_part(name: &[u8], s: Settings, out: &mut [u8], room: usize) {
         return;
     }
     let a = s.write(&mut out[..room]);
-    say_answer(name, a);
+    say_case(name, a);
     say_number(b"  bytes changed: ", changed(out));
     say(b"\n");
 }
@@ -195,7 +151,7 @@ fn write_case(name: &[u8], line: usize, value: u32, room: usize) {
 fn check_case(name: &[u8], line: usize, value: u32) {
     let s = with(line, value);
     let a = s.check();
-    say_answer(name, a);
+    say_case(name, a);
 }
 
 fn read_cases(input: &[u8]) {

@@ -1,2 +1,3 @@
 pub mod Keeps
 pub mod Rest
+pub mod Orbits

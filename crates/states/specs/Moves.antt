@@ -1,5 +1,6 @@
 -- Document 01, "States" (003, 3.6.1): the move of each state, with the code that it sends, and the wait that is set on entry.
 use Prim.Native.Nat.{ℕ, _-_}
+use mathlib.Core.Bool.{Bool, _&&_}
 use lib.Dec.{leb, eqb}
 use Rattle.laws.specs.Base.{if}
 use Rattle.settings.specs.declared.names.Schedule.{Schedule}
@@ -76,3 +77,7 @@ movedOf at w k number class s wait =
 -- in every state code 1 is sent at at_bc0 and 11 at at_gap
 unfoldable pub orbitCode : Schedule → ℕ → ℕ
 orbitCode at number = if (eqb number (at .bc0)) 1 (if (eqb number (at .gap)) 11 0)
+
+-- 3 at at_oc0 sends 8, orbit count = 0: where that move happens
+abbrev pub clearsOrbits : (at : Schedule) (number s wait : ℕ) → Bool
+clearsOrbits at number s wait = eqb wait 0 && (eqb s 3 && eqb number (at .oc0))

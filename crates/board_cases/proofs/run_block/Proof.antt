@@ -18,6 +18,9 @@ block-requires c κs = search needs
 is-done-requires : tie.Need-is-done-requires
 is-done-requires c κs = search needs
 
+slice-aggregate-say-answer : tie.Need-slice-aggregate-say-answer
+slice-aggregate-say-answer c = search needs
+
 say-answer-requires : tie.Need-say-answer-requires
 say-answer-requires c κs = search needs
 
@@ -50,6 +53,7 @@ run-block-spec =
     slice-aggregate-block
     block-requires
     is-done-requires
+    slice-aggregate-say-answer
     say-answer-requires
     slice-aggregate-say-left
     is-same-requires

@@ -6,10 +6,13 @@ use Rattle.ptc_cases.proofs.say_commands.Statement.{statement}
 use Rattle.ptc_cases.proofs.say_commands.Tie as tie
 
 abbrev Inv-loop : tie.InvT-loop
-Inv-loop state cycle command₀ t5 command = command ≤ 8
+Inv-loop state cycle command₀ t6 command = command ≤ 8
 
 abbrev μ-loop : tie.MeasureT-loop
-μ-loop state cycle command₀ t5 command = 8 - command
+μ-loop state cycle command₀ t6 command = 8 - command
+
+slice-aggregate-say-number : tie.Need-slice-aggregate-say-number Inv-loop μ-loop
+slice-aggregate-say-number c = search needs
 
 say-number-requires : tie.Need-say-number-requires Inv-loop μ-loop
 say-number-requires c κs = search needs
@@ -50,6 +53,7 @@ say-commands-spec =
     (tie.spec
     Inv-loop
     μ-loop
+    slice-aggregate-say-number
     say-number-requires
     slice-aggregate-say
     say-requires

@@ -6,10 +6,13 @@ use Rattle.ptc_cases.proofs.say_moves.Statement.{statement}
 use Rattle.ptc_cases.proofs.say_moves.Tie as tie
 
 abbrev Inv-loop : tie.InvT-loop
-Inv-loop k state class₀ t5 t6 class = class ≤ 8
+Inv-loop k state class₀ t6 t7 class = class ≤ 8
 
 abbrev μ-loop : tie.MeasureT-loop
-μ-loop k state class₀ t5 t6 class = 8 - class
+μ-loop k state class₀ t6 t7 class = 8 - class
+
+slice-aggregate-say-number : tie.Need-slice-aggregate-say-number Inv-loop μ-loop
+slice-aggregate-say-number c = search needs
 
 say-number-requires : tie.Need-say-number-requires Inv-loop μ-loop
 say-number-requires c κs = search needs
@@ -56,6 +59,7 @@ say-moves-spec =
     (tie.spec
     Inv-loop
     μ-loop
+    slice-aggregate-say-number
     say-number-requires
     slice-aggregate-say
     say-requires

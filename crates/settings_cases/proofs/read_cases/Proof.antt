@@ -69,7 +69,7 @@ loop-less c =
     let third = c .before .before .before .before .before in
     let second = third .before .before in
     let first = second .before .before in
-    omega (arith, c .after3 .ensures, third .line-end3 .ensures .0, third .before .after2 .ensures, second .line-end2 .ensures .0, second .before .after .ensures, first .line-end .ensures .0, first .before .loop-test .taken)
+    omega (arith, c .after3 .ensures, third .line-end3 .ensures .from, third .before .after2 .ensures, second .line-end2 .ensures .from, second .before .after .ensures, first .line-end .ensures .from, first .before .loop-test .taken)
 
 loop-again : tie.Need-loop-again Inv-loop μ-loop
 loop-again c = search needs

@@ -39,8 +39,8 @@ slice-aggregate-read c = sym (length-take-le _ _ (c .before .before .before .rep
 read-requires : tie.Need-read-requires
 read-requires c κs = search needs
 
-say-answer-requires : tie.Need-say-answer-requires
-say-answer-requires c κs = search needs
+say-case-requires : tie.Need-say-case-requires
+say-case-requires c κs = search needs
 
 same-length-2 : tie.Need-same-length-2
 same-length-2 c = search needs
@@ -66,7 +66,7 @@ read-edited-spec =
     slice-reshare-prefix-read
     slice-aggregate-read
     read-requires
-    say-answer-requires
+    say-case-requires
     same-length-2
     same-length-3
     returns-2)

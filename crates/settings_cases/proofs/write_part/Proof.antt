@@ -18,8 +18,8 @@ slice-aggregate-write c = sym (length-take-le _ _ (c .before .if1 .left))
 write-requires : tie.Need-write-requires
 write-requires c κs = search needs
 
-say-answer-requires : tie.Need-say-answer-requires
-say-answer-requires c κs = search needs
+say-case-requires : tie.Need-say-case-requires
+say-case-requires c κs = search needs
 
 slice-aggregate-say-number : tie.Need-slice-aggregate-say-number
 slice-aggregate-say-number c = search needs
@@ -50,7 +50,7 @@ write-part-spec =
     slice-relend-prefix-write
     slice-aggregate-write
     write-requires
-    say-answer-requires
+    say-case-requires
     slice-aggregate-say-number
     changed-requires
     say-number-requires

@@ -1,13 +1,15 @@
--- `board_cases::line_end` meets its contract: the end goes from the line's place to the text's end.
--- The loop's test gives the bound.
-use Prim.Native.Nat.{_-_, _≤_}
+-- `cases::line_end` meets its contract: no place that the end has passed has a newline.
+-- The loop's test gives the bound; the rest of the text is the measure.
+use mathlib.Core.Path.{_≡_}
+use Prim.Native.Nat.{ℕ, _-_, _≤_, _<_}
+use borrow.Author.Count.{below-more}
 use borrow.Author.Needs.{needs}
-use lib.ListN.{length}
-use Rattle.board_cases.proofs.line_end.Statement.{statement}
-use Rattle.board_cases.proofs.line_end.Tie as tie
+use lib.ListN.{length, getD}
+use Rattle.cases.proofs.line_end.Statement.{statement}
+use Rattle.cases.proofs.line_end.Tie as tie
 
 abbrev Inv-loop : tie.InvT-loop
-Inv-loop text at end₀ end = (at ≤ end) × (end ≤ length text)
+Inv-loop text at end₀ end = (at ≤ end) × (end ≤ length text) × ((k : ℕ) → k < end → at ≤ k → getD text k 0 ≡ 10 → ⊥)
 
 abbrev μ-loop : tie.MeasureT-loop
 μ-loop text at end₀ end = length text - end
@@ -28,7 +30,7 @@ loop-less : tie.Need-loop-less Inv-loop μ-loop
 loop-less c = search needs
 
 loop-again : tie.Need-loop-again Inv-loop μ-loop
-loop-again c = search needs
+loop-again c = (search needs, search needs, below-more _ _ (c .before .before .before .loop .inv .2) (λ _. c .if1 .left))
 
 returns-2 : tie.Need-returns-2 Inv-loop μ-loop
 returns-2 c = search needs

@@ -1,0 +1,61 @@
+// What the case programs share: the lines of their input, and how they print texts, numbers and answers.
+use answer::Answer;
+use libc::STDOUT_FILENO;
+ghost use mathlib.Core.Path.{_≡_};
+ghost use Prim.Native.Nat.{_+_, _≤_, min};
+ghost use lib.ListN.{length};
+ghost use Rattle.cases.specs.Lines.{EndsLine};
+
+// No contract can say what is printed.
+pub fn say(text: &[u8]) {
+    io::write_all(STDOUT_FILENO, text);
+}
+
+// A number after a text. No contract can say what is printed.
+pub fn say_number(before: &[u8], n: u64) {
+    say(before);
+    io::print_decimal(STDOUT_FILENO, n);
+}
+
+fn say_carried(value: usize) {
+    say_number(b" carries ", value as u64);
+}
+
+// The refusal's number or 0 after a text, and what it carries. No contract can say what is printed.
+pub fn say_answer(before: &[u8], a: Answer) {
+    say_number(before, a.number());
+    match a {
+        Answer::Done => {}
+        Answer::Text(line) => say_carried(line),
+        Answer::Range(line) => say_carried(line),
+        Answer::Relation(which) => say_carried(which),
+        Answer::Board => {}
+        Answer::Length => {}
+        Answer::Room(needed) => say_carried(needed),
+        Answer::Record(index) => say_carried(index),
+        Answer::Life => {}
+    }
+}
+
+// Where the line that begins at a place ends, before its newline.
+pub fn line_end(text: &[u8], at: usize) -> usize
+    requires { ⌜ at ≤ length (now text) ⌝ }
+    ensures { λ r. ⌜ EndsLine (now (text .entry)) at r ⌝ }
+{
+    let mut end = at;
+    while end < text.len() {
+        if text[end] == 10 {
+            return end;
+        }
+        end += 1;
+    }
+    end
+}
+
+// The place after a newline, or the text's end.
+pub fn after(text: &[u8], end: usize) -> usize
+    requires { ⌜ end ≤ length (now text) ⌝ }
+    ensures { λ r. ⌜ r ≡ min (end + 1) (length (now (text .entry))) ⌝ }
+{
+    if end < text.len() { end + 1 } else { end }
+}
