@@ -1,6 +1,10 @@
 -- Every promise is kept: each by its own theorem.
 -- Nothing is argued here; this is where the three demands stand complete.
 use Rattle.settings.proofs.RoundTrip.{accepted-writes-back, written-reads-back}
+use Rattle.settings.proofs.Named.{named-by-key}
+use Rattle.status.proofs.Laws.{one-pass}
+use Rattle.throttle.proofs.Ring.{marking}
+use Rattle.eight.proofs.Orbits.{orbits-cleared}
 use Rattle.outcomes.proofs.Outcomes.{one-outcome}
 use Rattle.figures.proofs.Figures.{figures}
 use Rattle.cut.proofs.Program.{program}
@@ -15,6 +19,7 @@ pub promises : Promises
 promises =
     record {
       refusals = refusals;
+      tied = record { names = named-by-key; merge = one-pass; marks = marking; orbits = orbits-cleared };
       one-outcome = one-outcome;
       round-trips = record { accepted-writes-back = accepted-writes-back; written-reads-back = written-reads-back };
       figures = figures;

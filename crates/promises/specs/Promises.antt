@@ -7,6 +7,10 @@ use Rattle.answer.specs.Told.{DONE}
 use Rattle.settings.specs.declared.Settings.{Settings}
 use Rattle.settings.specs.Read.{readText}
 use Rattle.settings.specs.Write.{textOf, written}
+use Rattle.settings.specs.Named.{NamedByKey}
+use Rattle.status.specs.OnePass.{OnePass}
+use Rattle.throttle.specs.Ring.{Marking}
+use Rattle.eight.specs.Orbits.{OrbitsCleared}
 use Rattle.outcomes.specs.Outcomes.{OneOutcome}
 use Rattle.figures.specs.Figures.{Figures}
 use Rattle.cut.specs.Program.{Program}
@@ -23,10 +27,19 @@ pub record RoundTrips : Type 0 where
   pub written-reads-back : (s : Settings) (buffer : List ℕ) → length (s .values) ≡ 71 → written s buffer .answer ≡ DONE
       → readText (take (length (textOf s)) (written s buffer .buffer)) ≡ record { answer = DONE; settings = s }
 
+-- what the code goes by, and what document 01 says: each name its key, one pass the eight merges, the ring's words the marks, and a
+-- byte of the row the move that sets the orbit count to 0
+pub record Tied : Type 0 where
+  pub names : NamedByKey
+  pub merge : OnePass
+  pub marks : Marking
+  pub orbits : OrbitsCleared
+
 pub record Promises : Type 0 where
   -- demand 1
   pub refusals : Refusals
   -- demand 2: the contracts are equations with the definitions of document 01; so one input has one outcome
+  pub tied : Tied
   pub one-outcome : OneOutcome
   pub round-trips : RoundTrips
   pub figures : Figures
