@@ -2,16 +2,12 @@
 -- They are the parts of the one conjunction, read and put together.
 use mathlib.Core.Path.{_≡_}
 use mathlib.Core.Bool.{true, _&&_}
-use Prim.Native.Nat.{ℕ, _≤_}
-use borrow.Author.Tests.{leb-true}
-use lib.Dec.{leb}
 use Rattle.laws.proofs.Bools.{both}
 use Rattle.answer.specs.Told.{DONE, succeeded}
 use Rattle.settings.specs.Names.{orbitOf}
 use Rattle.settings.specs.Check.{checked}
 use Rattle.settings.proofs.Bounds.{done-checks, checks-done}
 use Rattle.throttle.specs.Sound.{soundMarks}
-use Rattle.clock.specs.declared.Clock.{Clock}
 use Rattle.clock.specs.Clock.{soundClock}
 use Rattle.clock.specs.Turn.{soundTurn}
 use Rattle.records.specs.Refusal.{LIFETIME}
@@ -46,6 +42,3 @@ unfolding soundBoard
 parts-sound b p = rw (checks-done (b .settings) (p .checks), p .clock, p .turn, p .eight, p .marks)
 
 -- a sound clock has not passed the end of the board's life
-pub within-life : (orbit : ℕ) (c : Clock) → soundClock LIFETIME orbit c ≡ true → c .crossings ≤ LIFETIME
-unfolding soundClock
-within-life orbit c e = leb-true _ _ (both (leb (c .crossings) LIFETIME) _ e .0)

@@ -18,7 +18,8 @@ use Rattle.board.specs.Sound.{soundBoard}
 use Rattle.board.specs.Block.{RanOut, answerOf, blockOf}
 use Rattle.board.proofs.Answers.{block-ready, block-answer, block-done}
 use Rattle.board.proofs.Keeps.{Fit, ran-fit}
-use Rattle.board.proofs.Settled.{sound-parts, within-life}
+use Rattle.board.proofs.Settled.{sound-parts}
+use Rattle.soundness.proofs.Life.{within-life}
 use Rattle.replay.specs.Replay.{blocksIn, blockAt, laidOn, inBlocks}
 use Rattle.replay.proofs.Laws.{stays}
 use Rattle.cut.proofs.Accepted.{fit-of, accepts, accepted, rows-taken, rows-past}

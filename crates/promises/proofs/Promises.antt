@@ -1,7 +1,7 @@
 -- Every promise is kept: each by its own theorem.
 -- Nothing is argued here; this is where the three demands stand complete.
 use Rattle.settings.proofs.RoundTrip.{accepted-writes-back, written-reads-back}
-use Rattle.settings.proofs.Named.{named-by-key}
+use Rattle.naming.proofs.Named.{named-by-key}
 use Rattle.status.proofs.Laws.{one-pass}
 use Rattle.throttle.proofs.Ring.{marking}
 use Rattle.eight.proofs.Orbits.{orbits-cleared}

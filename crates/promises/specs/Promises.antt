@@ -7,7 +7,7 @@ use Rattle.answer.specs.Told.{DONE}
 use Rattle.settings.specs.declared.Settings.{Settings}
 use Rattle.settings.specs.Read.{readText}
 use Rattle.settings.specs.Write.{textOf, written}
-use Rattle.settings.specs.Named.{NamedByKey}
+use Rattle.naming.specs.Named.{NamedByKey}
 use Rattle.status.specs.OnePass.{OnePass}
 use Rattle.throttle.specs.Ring.{Marking}
 use Rattle.eight.specs.Orbits.{OrbitsCleared}

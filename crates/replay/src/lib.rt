@@ -11,9 +11,9 @@ ghost use Rattle.board.specs.Block.{ranOut};
 ghost use Rattle.replay.specs.Replay.{openedOf, blocksIn, inBlocks};
 
 // The bytes of 64 records, and of their rows.
-pub const BLOCK: usize = 1536;
+const BLOCK: usize = 1536;
 
-pub const BLOCK_ROWS: usize = 768;
+const BLOCK_ROWS: usize = 768;
 
 // The fresh board of a settings text, or the first refusal.
 pub fn opened(text: &[u8]) -> Made

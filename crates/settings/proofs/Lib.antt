@@ -4,4 +4,3 @@ mod Deciding
 pub mod RoundTrip
 pub mod Bounds
 pub mod Standard
-pub mod Named

@@ -3,5 +3,4 @@ pub mod Relations
 pub mod Check
 pub mod Read
 pub mod Write
-pub mod Named
 pub mod support

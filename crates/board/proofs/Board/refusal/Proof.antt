@@ -6,7 +6,8 @@ use borrow.Author.Tests.{not-true, not-false}
 use borrow.Author.Needs.{needs}
 use Rattle.board.specs.Sound.{soundBoard}
 use Rattle.board.specs.Block.{answerOf}
-use Rattle.board.proofs.Settled.{sound-parts, within-life}
+use Rattle.board.proofs.Settled.{sound-parts}
+use Rattle.soundness.proofs.Life.{within-life}
 use Rattle.board.proofs.Board.refusal.Statement.{statement}
 use Rattle.board.proofs.Board.refusal.Tie as tie
 

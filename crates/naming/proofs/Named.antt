@@ -16,9 +16,9 @@ use Rattle.laws.proofs.Over.{length-tabulate, getD-tabulate}
 use Rattle.text.specs.Bytes.{bytes}
 use Rattle.text.specs.Decimal.{decimal, decimalOf}
 use Rattle.keys.specs.Settings.{table}
 use Rattle.settings.specs.declared.Settings.{Settings}
 use Rattle.settings.specs.Names.{after, timesOf}
-use Rattle.settings.specs.Named.{lineOf, valueOf, valueOfNth, atValues, NamedByKey}
+use Rattle.naming.specs.Named.{lineOf, valueOf, valueOfNth, atValues, NamedByKey}
 
 -- lines of one name, numbered from 0, stand one after the other from a place on
 abbrev standsAt : String → ℕ → ℕ → Bool
