@@ -25,7 +25,7 @@ use Rattle.replay.proofs.Laws.{stays}
 use Rattle.cut.proofs.Accepted.{fit-of, accepts, accepted, rows-taken, rows-past}
 use Rattle.cut.proofs.Parts.{records-add, ran-parts, rows-parts, first-ready, rest-ready, both-ready}
 use Rattle.cut.specs.Blocks.{Whole}
-use Rattle.cut.specs.Program.{first, next, Program}
+use Rattle.cut.specs.Program.{firstBlocks, nextBlock, Program}
 
 module _ (b : Board) (rows : List ℕ) (fit : Fit b) where
   -- a part of a log, run in one block
@@ -146,12 +146,12 @@ refused-block b log rows e =
     let stopped : succeeded (answerOf b log (length rows)) ≡ false = ap succeeded (sym (block-answer b log rows)) ∙ e in
     rw stopped
 
-ends : (b : Board) (log rows : List ℕ) (n : ℕ) → inBlocks n b log rows ≡ first n b log rows → first n b log rows .answer ≡ DONE
-    → succeeded (next n b log rows .answer) ≡ false
-    → inBlocks (suc n) b log rows ≡ record { answer = next n b log rows .answer; board = first n b log rows .board; rows = first n b log rows .rows }
+ends : (b : Board) (log rows : List ℕ) (n : ℕ) → inBlocks n b log rows ≡ firstBlocks n b log rows → firstBlocks n b log rows .answer ≡ DONE
+    → succeeded (nextBlock n b log rows .answer) ≡ false
+    → inBlocks (suc n) b log rows ≡ record { answer = nextBlock n b log rows .answer; board = firstBlocks n b log rows .board; rows = firstBlocks n b log rows .rows }
 unfolding inBlocks
 ends b log rows n so done stopped =
-    let o = first n b log rows in
+    let o = firstBlocks n b log rows in
     rw (so, done, refused-block (o .board) (blockAt log n) (drop (768 * n) (o .rows)) stopped, take-append-drop)
 
 pub program : Program
@@ -169,9 +169,9 @@ program = record { same = same; only = only; refused = refused }
         let r = went-through b rows fit log (blocksIn log) (omega arith) (rw done refl) in
         accepts b log rows sound (rw (up-to-all b rows fit log) at r)
 
-    refused : (b : Board) (log rows : List ℕ) (n : ℕ) → Whole b → n < blocksIn log → first n b log rows .answer ≡ DONE
-        → succeeded (next n b log rows .answer) ≡ false
-        → inBlocks (blocksIn log) b log rows ≡ record { answer = next n b log rows .answer; board = first n b log rows .board; rows = first n b log rows .rows }
+    refused : (b : Board) (log rows : List ℕ) (n : ℕ) → Whole b → n < blocksIn log → firstBlocks n b log rows .answer ≡ DONE
+        → succeeded (nextBlock n b log rows .answer) ≡ false
+        → inBlocks (blocksIn log) b log rows ≡ record { answer = nextBlock n b log rows .answer; board = firstBlocks n b log rows .board; rows = firstBlocks n b log rows .rows }
     refused b log rows n whole h done stopped =
         let x = take (1536 * n) log in
         let start = block-ready b x (length rows) (sym (block-answer b x rows) ∙ done) in

@@ -12,11 +12,11 @@ use Rattle.replay.specs.Replay.{blocksIn, blockAt, inBlocks}
 use Rattle.cut.specs.Blocks.{Whole}
 
 -- the first n blocks of a log, run as one; and the block after them, over the board and the rows that they left
-abbrev pub first : ℕ → Board → List ℕ → List ℕ → RanOut
-first n b log rows = blockOf b (take (1536 * n) log) rows
+abbrev pub firstBlocks : ℕ → Board → List ℕ → List ℕ → RanOut
+firstBlocks n b log rows = blockOf b (take (1536 * n) log) rows
 
-abbrev pub next : ℕ → Board → List ℕ → List ℕ → RanOut
-next n b log rows = blockOf (first n b log rows .board) (blockAt log n) (drop (768 * n) (first n b log rows .rows))
+abbrev pub nextBlock : ℕ → Board → List ℕ → List ℕ → RanOut
+nextBlock n b log rows = blockOf (firstBlocks n b log rows .board) (blockAt log n) (drop (768 * n) (firstBlocks n b log rows .rows))
 
 pub record Program : Type 0 where
   -- a log that is accepted whole goes through with the same rows and closing board
@@ -28,6 +28,6 @@ pub record Program : Type 0 where
   pub refused : (b : Board) (log rows : List ℕ) (n : ℕ)
       → Whole b
       → n < blocksIn log
-      → first n b log rows .answer ≡ DONE
-      → succeeded (next n b log rows .answer) ≡ false
-      → inBlocks (blocksIn log) b log rows ≡ record { answer = next n b log rows .answer; board = first n b log rows .board; rows = first n b log rows .rows }
+      → firstBlocks n b log rows .answer ≡ DONE
+      → succeeded (nextBlock n b log rows .answer) ≡ false
+      → inBlocks (blocksIn log) b log rows ≡ record { answer = nextBlock n b log rows .answer; board = firstBlocks n b log rows .board; rows = firstBlocks n b log rows .rows }

@@ -71,7 +71,7 @@ pub record OneOutcome : Type 0 where
   pub settings-length : (s : Settings) → OneValue (settings-length-contract.Post tt) (s, tt)
   pub number : (a : Answer) → OneValue (number-contract.Post tt) (a, tt)
   pub is-done : (a : Answer) → OneValue (is-done-contract.Post tt) (a, tt)
-  -- every other public function whose `ensures` is no plain equation of the result
+  -- every other public function of the library whose `ensures` is no plain equation of the result
   pub refusal : (κs : Lfts 1) (done : ℕ) (log : Lent) (room : ℕ) → OneValue (refusal-contract.Post κs) (done, (log, (room, tt)))
   pub read-line : (κs : Lfts 2) (text : Lent) (at : ℕ) (head : Lent) (range : Range) → OneValue (read-line-contract.Post κs) (text, (at, (head, (range, tt))))
   pub read-key : (κs : Lfts 1) (text : Lent) (at n : ℕ) (range : Range) → OneValue (read-key-contract.Post κs) (text, (at, (n, (range, tt))))

@@ -38,7 +38,7 @@ use Rattle.board.proofs.Keeps.{fresh-sound, ran-count}
 use Rattle.report.specs.Report.{controllerText, blocksFrom, reportText, reportAnswer, reported}
 use Rattle.cut.proofs.Cut.{cut}
 use Rattle.balance.proofs.Balance.{balance}
-use Rattle.programs.specs.Programs.{orbitZero, fresh, unsound, crossing, shortened, damaged, requestedIn, Reads, Writes, Makes, Runs, Reports, NoEmptyProgram}
+use Rattle.programs.specs.Programs.{orbitZero, fresh, unsound, crossing, shortened, damaged, requestedIn, ReadsText, WritesText, MakesBoard, RunsBlock, WritesReport, NoEmptyProgram}
 
 zero-checks : checked orbitZero ≡ RANGE 1
 unfolding checked standard table
@@ -53,7 +53,7 @@ standard-long : length (standard .values) ≡ 71
 unfolding standard
 standard-long = refl
 
-reading : Reads
+reading : ReadsText
 unfolding readText table readLine lineHead lineText number
 reading =
     record {
@@ -72,7 +72,7 @@ write-fits s room e =
     let ok : checked s ≡ DONE = write-checks s room e in
     (ok, room-yes (length (textOf s)) room (rw ok at e))
 
-writing : Writes
+writing : WritesText
 unfolding written writeAnswer
 writing =
     record {
@@ -83,7 +83,7 @@ writing =
       no-orbit = rw zero-checks;
     }
 
-making : Makes
+making : MakesBoard
 unfolding freshOf freshBoard
 making =
     record {
@@ -108,7 +108,7 @@ accepts-crossing requests = answers (crossing requests)
 counted : (requests : ℕ) → requestedIn (blockOf fresh (crossing requests) (replicate 12 0) .board) ≡ requestedIn (ran 1 fresh (crossing requests))
 counted requests = ap (λ (o : RanOut). requestedIn (o .board)) (block-done fresh (crossing requests) (replicate 12 0) (accepts-crossing requests))
 
-running : Runs
+running : RunsBlock
 unfolding refusalOf firstNot well wellCrossing wellCommand ran stepped boardCrossed mapI actOf crossedOf requestedOf askedIn freshBoard
 running =
     record {
@@ -139,7 +139,7 @@ not-sound : soundBoard unsound ≡ false
 unfolding soundBoard freshBoard
 not-sound = rw zero-checks
 
-reporting : Reports
+reporting : WritesReport
 unfolding reported reportAnswer
 reporting =
     record {

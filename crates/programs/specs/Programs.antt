@@ -58,7 +58,7 @@ requestedIn b = getD (b .ptcs) 0 freshPtc .counts .requested
 -- ---- the operations
 
 -- a text is accepted exactly if it is that of 71 values that pass the checks, and gives them
-pub record Reads : Type 0 where
+pub record ReadsText : Type 0 where
   pub accepts : (s : Settings) → length (s .values) ≡ 71 → checked s ≡ DONE → readText (textOf s) ≡ record { answer = DONE; settings = s }
   pub accepted : (text : List ℕ) → readText text .answer ≡ DONE
       → (length (readText text .settings .values) ≡ 71) × (checked (readText text .settings) ≡ DONE) × (textOf (readText text .settings) ≡ text)
@@ -67,7 +67,7 @@ pub record Reads : Type 0 where
   pub small-orbit : readText orbitFive .answer ≡ RANGE 1
 
 -- settings are written exactly if they pass the checks and their text fits
-pub record Writes : Type 0 where
+pub record WritesText : Type 0 where
   pub accepts : (s : Settings) (buffer : List ℕ) → checked s ≡ DONE → length (textOf s) ≤ length buffer
       → written s buffer ≡ record { answer = DONE; buffer = textOf s ++ drop (length (textOf s)) buffer }
   pub accepted : (s : Settings) (buffer : List ℕ) → written s buffer .answer ≡ DONE → (checked s ≡ DONE) × (length (textOf s) ≤ length buffer)
@@ -76,7 +76,7 @@ pub record Writes : Type 0 where
   pub no-orbit : written orbitZero [] .answer ≡ RANGE 1
 
 -- a fresh board is made exactly of settings that pass the checks, and keeps them: two settings give two boards
-pub record Makes : Type 0 where
+pub record MakesBoard : Type 0 where
   pub accepts : (s : Settings) → checked s ≡ DONE → freshOf s ≡ record { answer = DONE; board = freshBoard s }
   pub accepted : (s : Settings) → freshOf s .answer ≡ DONE → checked s ≡ DONE
   pub keeps-settings : (s : Settings) → freshOf s .answer ≡ DONE → freshOf s .board .settings ≡ s
@@ -85,7 +85,7 @@ pub record Makes : Type 0 where
 
 -- a block is accepted exactly if the board is sound and the records have no fault. It then gives what they make of the board, and has
 -- counted each of its crossings
-pub record Runs : Type 0 where
+pub record RunsBlock : Type 0 where
   pub accepts : (b : Board) (log rows : List ℕ) → soundBoard b ≡ true → Ready (b .clock .crossings) log (length rows) → blockOf b log rows .answer ≡ DONE
   pub accepted : (b : Board) (log rows : List ℕ) → blockOf b log rows .answer ≡ DONE → (soundBoard b ≡ true) × (Ready (b .clock .crossings) log (length rows))
   pub gives : (b : Board) (log rows : List ℕ) → blockOf b log rows .answer ≡ DONE
@@ -100,7 +100,7 @@ pub record Runs : Type 0 where
   pub counts-none : requestedIn (blockOf fresh (crossing 0) (replicate 12 0) .board) ≡ 0
 
 -- a report is written exactly if the board is sound and the report fits
-pub record Reports : Type 0 where
+pub record WritesReport : Type 0 where
   pub accepts : (b : Board) (buffer : List ℕ) → soundBoard b ≡ true → length (reportText b) ≤ length buffer
       → reported b buffer ≡ record { answer = DONE; buffer = reportText b ++ drop (length (reportText b)) buffer }
   pub accepted : (b : Board) (buffer : List ℕ) → reported b buffer .answer ≡ DONE → (soundBoard b ≡ true) × (length (reportText b) ≤ length buffer)
@@ -109,10 +109,10 @@ pub record Reports : Type 0 where
   pub refused-settings : reported unsound [] .answer ≡ BOARD
 
 pub record NoEmptyProgram : Type 0 where
-  pub reading : Reads
-  pub writing : Writes
-  pub making : Makes
-  pub running : Runs
-  pub reporting : Reports
+  pub reading : ReadsText
+  pub writing : WritesText
+  pub making : MakesBoard
+  pub running : RunsBlock
+  pub reporting : WritesReport
   pub every-block : Cut
   pub counts-read-off : Balances
