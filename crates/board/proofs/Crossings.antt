@@ -64,17 +64,6 @@ module _ (b : Board) (kit : Kit) (own : kit ≡ kitOf (b .settings)) where
 
 -- ---- what their answers make
 
-module _ (b : Board) (rec : List ℕ) where
-  pub scene-is : (turn : Turn) (number : ℕ) (scene : Scene) → turn ≡ turnIn b (markerIn rec) → number ≡ numberOf (b .clock) (markerIn rec)
-      → scene ≡ sceneAt b number (turn .holder) → scene ≡ sceneOf b (markerIn rec)
-  unfolding sceneOf
-  scene-is turn number scene t n s = s ∙ rw (t, n)
-
-  pub row-is : (bytes shown row rows old : List ℕ) → bytes ≡ eight byteOf b rec → shown ≡ eight shownOf b rec → row ≡ crossingRow bytes shown
-      → rows ≡ row ++ drop 12 old → rows ≡ rowCrossed b rec ++ drop 12 old
-  unfolding rowCrossed
-  row-is bytes shown row rows old y s r e = e ∙ rw (r, y, s)
-
 module _ (b : Board) (rec : List ℕ) (kit : Kit) (own : kit ≡ kitOf (b .settings)) where
   pub turn-is : (ends : Bool) (turn : Turn) → ends ≡ orbitEnds (b .clock) (markerIn rec) → turn ≡ turnedOf (kit .slots) ends (b .turn)
       → turn ≡ turnIn b (markerIn rec)
@@ -84,16 +73,3 @@ module _ (b : Board) (rec : List ℕ) (kit : Kit) (own : kit ≡ kitOf (b .setti
   pub classes-is : (got : List ℕ) → Coded (codesIn rec) → got ≡ voted (kit .merger) (codesIn rec) 40 → got ≡ classes (b .settings) (codesIn rec)
   unfolding kitOf
   classes-is got good e = e ∙ rw own (one-pass (b .settings) (codesIn rec) good)
-
-  pub eight-is : {A : Type 0} (f : Plan → Scene → List ℕ → ℕ → ℕ → Ptc → A) (scene : Scene) (got : List ℕ) (all : List A)
-      → scene ≡ sceneOf b (markerIn rec) → got ≡ classes (b .settings) (codesIn rec)
-      → all ≡ mapI (f (kit .plan) scene got (getD rec 2 0)) 0 (b .ptcs) → all ≡ eight f b rec
-  unfolding kitOf
-  eight-is f scene got all s g e = e ∙ rw (own, s, g)
-
-  pub board-is : (next r : Board) (ptcs : List Ptc) (bytes : List ℕ) (after : Clock) (turn : Turn) (carried : Bool)
-      → ptcs ≡ eight ptcOf b rec → bytes ≡ eight byteOf b rec → turn ≡ turnIn b (markerIn rec)
-      → next ≡ withPtcs b ptcs → after ≡ clockOf (kit .orbit) (b .clock) (markerIn rec) bytes → carried ≡ carries bytes
-      → r ≡ passedOn next after turn carried → r ≡ boardCrossed b rec
-  unfolding kitOf boardCrossed
-  board-is next r ptcs bytes after turn carried p y t n a k e = e ∙ rw (n, a, k, p, y, t, own)

@@ -2,6 +2,5 @@ pub mod Settled
 pub mod Crossings
 pub mod Cut
 pub mod Keeps
-pub mod Calm
-pub mod Turn
 pub mod Answers
+pub mod Turn

@@ -1,200 +1,320 @@
--- One turn of the loop over a block: what its calls ask, and the board, the rows and the rest of the invariant after one record more.
--- A run adds at the end, so a turn is its clause; where the board is at rest, the turn is the law of a plain crossing.
-use mathlib.Core.Path.{_≡_, sym, _∙_}
-use mathlib.Core.Bool.{Bool, true, false, not, _&&_}
+-- One turn of the loop over a block: what its calls ask, and that the state after it stands for the board after one record more.
+-- A run adds at the end, so a turn is its clause; a crossing is put together by the laws of `still` and of `Crossings`.
+use mathlib.Core.Path.{_≡_, refl, ap, sym, _∙_}
+use mathlib.Core.Bool.{Bool, true, false, _&&_, false≢true}
 use mathlib.Core.List.{List, _++_}
-use Prim.Native.Nat.{ℕ, _+_, _*_, _-_, _≤_, _<_}
+use Prim.Native.Nat.{ℕ, _+_, _*_, _-_, _%_, _≤_, _<_}
+use native.Mathlib.Nat.{zero-add, not-suc-le-zero}
 use native.Mathlib.Numerals.{add-one}
 use native.Mathlib.Omega.{arith}
-use lib.Dec.{eqb}
+use lib.Dec.{ltb}
 use lib.ListN.{length, getD, set, take, drop, replicate, length-append, length-drop}
+use borrow.Author.Tests.{eq-eqb, ne-eqb}
 use borrow.Rule.Slice.PartMut.{putMid}
-use Rattle.laws.specs.Base.{if, one}
+use Rattle.laws.specs.Base.{mapI, one, allB}
 use Rattle.laws.proofs.Bools.{both}
-use Rattle.settings.specs.Names.{scheduleOf}
+use Rattle.laws.proofs.Over.{length-mapI, getD-mapI}
+use Rattle.laws.proofs.Maps.{map-is}
+use Rattle.settings.specs.Names.{waitsOf}
 use Rattle.status.specs.Codes.{Coded}
 use Rattle.status.specs.Merge.{classes}
 use Rattle.status.specs.support.Merger.{voted}
 use Rattle.throttle.specs.Marks.{passed}
-use Rattle.throttle.specs.Rules.{Sensible, free}
+use Rattle.throttle.specs.Rules.{Sensible}
 use Rattle.clock.specs.declared.Clock.{Clock}
-use Rattle.clock.specs.Clock.{tickedOf}
-use Rattle.clock.specs.support.Room.{ClockRoom}
+use Rattle.clock.specs.declared.Turn.{Turn}
+use Rattle.clock.specs.Clock.{numberOf}
+use Rattle.clock.specs.support.Room.{ClockRoom, SlotRoom}
+use Rattle.states.specs.Names.{statusOf}
+use Rattle.ptc.specs.declared.Ptc.{Ptc}
 use Rattle.ptc.specs.declared.Scene.{Scene}
 use Rattle.ptc.specs.declared.Crossed.{Crossed}
+use Rattle.ptc.specs.declared.Commanded.{Commanded}
 use Rattle.ptc.specs.support.Room.{Room}
-use Rattle.ptc.specs.support.Rest.{restedOf}
-use Rattle.records.specs.Records.{recAt, isCrossing, codesIn, sameCodes, well, firstIll, crossingsIn}
+use Rattle.ptc.specs.support.Rest.{atRest}
+use Rattle.ptc.specs.Fresh.{freshPtc}
+use Rattle.ptc.specs.Command.{commandedOf}
+use Rattle.records.specs.Records.{recAt, isCrossing, markerIn, askedIn, codesIn, well, firstIll, crossingsIn}
 use Rattle.records.specs.Refusal.{LIFETIME}
-use Rattle.records.proofs.Laws.{rec-long, rec-byte, rec-bytes, lent, well-at, same-codes}
+use Rattle.records.specs.Rows.{rowByte, carries, crossingRow, commandRow}
+use Rattle.records.proofs.Laws.{rec-long, rec-byte, rec-bytes, well-at, command-kind}
 use Rattle.records.proofs.Laid.{laid}
-use Rattle.board.specs.declared.Board.{Board}
 use Rattle.kit.specs.declared.Kit.{Kit}
+use Rattle.kit.specs.Kit.{planOf}
 use Rattle.kit.specs.support.Laid.{kitOf}
+use Rattle.eight.specs.Eight.{actOf, ptcOf, byteOf, shownOf, clockOf}
+use Rattle.eight.proofs.Eight.{room-at, shown-low}
+use Rattle.still.specs.declared.Look.{Look}
+use Rattle.still.specs.support.Still.{sameBefore, dueOf}
+use Rattle.still.specs.support.Look.{firstLook, lookOf, sceneFor}
+use Rattle.still.proofs.Passing.{passed as passes, passed-over, due-low, same-votes}
+use Rattle.still.proofs.Seen.{wholeScene, scene-seen}
+use Rattle.still.proofs.Acting.{Quiet, Acted}
+use Rattle.board.specs.declared.Board.{Board}
+use Rattle.board.specs.Crossing.{withPtcs, turnIn, sceneOf, eight, boardCrossed, rowCrossed}
+use Rattle.board.specs.Command.{commandIn, boardCommanded, rowCommanded}
 use Rattle.board.specs.Run.{stepped, rowOf, ran, rowsOf}
 use Rattle.board.specs.Sound.{soundBoard}
-use Rattle.still.specs.support.Still.{calmUnder, stillRow, plainCrossing}
+use Rattle.board.specs.support.Loop.{settled}
 use Rattle.board.proofs.Settled.{sound-parts}
-use Rattle.eight.proofs.Eight.{room-at}
-use Rattle.board.proofs.Crossings.{coded, clock-room, scene-asked, classes-is}
+use Rattle.board.proofs.Crossings.{coded, clock-room, turn-asked, scene-asked, turn-is, classes-is}
 use Rattle.board.proofs.Keeps.{Fit, ran-settings, ran-room, ran-ptcs-long, ran-fit, row-of-long, rows-long}
-use Rattle.board.proofs.Calm.{holding, loneScene, loneOf, plain-low, plain-kind, board-still, row-still, calm-stays, row-stays}
 
--- a turn: the block that is run, which is not refused, and the board before its record i
-pub record Begun (first : Board) (log : List ℕ) (n : ℕ) (kit : Kit) (i : ℕ) (b : Board) : Type 0 where
+-- ---- the loop's invariant
+
+-- all eight are at rest under the classes of the crossing before record i, and show what is kept of them
+pub record Calm (log got shown : List ℕ) (i : ℕ) (ps : List Ptc) : Type 0 where
+  pub some : 0 < i
+  pub kind : isCrossing (recAt log (i - 1)) ≡ true
+  pub rests : (j : ℕ) → j < 8 → atRest (getD got j 0) (getD ps j freshPtc) ≡ true
+  pub shows : (j : ℕ) → j < 8 → statusOf (getD ps j freshPtc .state) ≡ getD shown j 0
+
+-- before record i the state of the loop stands for the board after the records before it
+pub record Stands (first : Board) (log : List ℕ) (n : ℕ) (old : List ℕ) (kit : Kit) (rows : List ℕ) (kept : Board) (clock : Clock) (look : Look)
+    (shown : List ℕ) (calm : Bool) (i : ℕ) : Type 0 where
+  pub most : i ≤ n
+  pub board : settled kept clock (look .turn) ≡ ran i first log
+  pub laidOut : rows ≡ rowsOf i first log ++ drop (12 * i) old
+  pub long : length rows ≡ length old
+  pub wide : length shown ≡ 8
+  pub votes : 0 < i → isCrossing (recAt log (i - 1)) ≡ true → look .classes ≡ voted (kit .merger) (codesIn (recAt log (i - 1))) 40
+  pub still : calm ≡ true → Calm log (look .classes) shown i (kept .ptcs)
+
+pub stands-first : (first : Board) (log : List ℕ) (n : ℕ) (old : List ℕ) (kit : Kit) (look : Look) → look ≡ firstLook (first .turn)
+    → Stands first log n old kit old first (first .clock) look (replicate 8 0) false 0
+unfolding ran rowsOf
+stands-first first log n old kit look e =
+    record {
+      most = omega arith;
+      board = rw e;
+      laidOut = refl;
+      long = refl;
+      wide = refl;
+      votes = λ h. absurd (not-suc-le-zero h);
+      still = λ h. absurd (false≢true h);
+    }
+
+-- a turn: the block that is run, which is not refused, and the state before its record i
+pub record Begun (first : Board) (log : List ℕ) (n : ℕ) (old : List ℕ) (kit : Kit) (rows : List ℕ) (kept : Board) (clock : Clock) (look : Look)
+    (shown : List ℕ) (calm : Bool) (i : ℕ) : Type 0 where
   pub fit : Fit first
   pub long : length log ≡ 24 * n
+  pub room : 12 * n ≤ length old
   pub formed : firstIll n log ≡ n
   pub life : first .clock .crossings + crossingsIn n log ≤ LIFETIME
   pub bytes : (k : ℕ) → getD log k 0 < 256
   pub made : kit ≡ kitOf (first .settings)
   pub less : i < n
-  pub here : b ≡ ran i first log
+  pub here : Stands first log n old kit rows kept clock look shown calm i
 
--- what a calm board has: under the classes of the record before it stays at rest, and its row is laid out
-pub record Calm (got row : List ℕ) (i : ℕ) (b : Board) : Type 0 where
-  pub some : 0 < i
-  pub under : calmUnder got (b .ptcs) ≡ true
-  pub shows : row ≡ stillRow (b .ptcs)
+module _ {first : Board} {log : List ℕ} {n : ℕ} {old : List ℕ} {kit : Kit} {rows : List ℕ} {kept : Board} {clock : Clock} {look : Look}
+    {shown : List ℕ} {calm : Bool} {i : ℕ} (t : Begun first log n old kit rows kept clock look shown calm i) where
+  -- the board before this record
+  abbrev now : Board
+  now = settled kept clock (look .turn)
 
--- the record that the loop lends in this turn
-abbrev lentAt : List ℕ → ℕ → List ℕ
-lentAt log i = take (24 * i + 24 - 24 * i) (drop (24 * i) log)
+  abbrev rec : List ℕ
+  rec = recAt log i
 
--- ---- any record
+  fit-at : Fit now
+  fit-at = rw (t .here .board) (ran-fit n first log (t .fit) (t .life) i (omega (arith, t .less)))
 
-module _ {first : Board} {log : List ℕ} {n : ℕ} {kit : Kit} {i : ℕ} {b : Board} (t : Begun first log n kit i b) where
-  fit-at : Fit b
-  fit-at = rw (t .here) (ran-fit n first log (t .fit) (t .life) i (omega arith))
+  pub ptcs-long : length (kept .ptcs) ≡ 8
+  ptcs-long = fit-at .ptcs
 
-  own-at : kit ≡ kitOf (b .settings)
-  own-at = t .made ∙ rw (t .here, ran-settings first log i)
+  own-at : kit ≡ kitOf (now .settings)
+  own-at = t .made ∙ rw (t .here .board, ran-settings first log i)
 
-  long-at : length (recAt log i) ≡ 24
+  long-at : length rec ≡ 24
   long-at = rec-long log i n (t .long) (t .less)
 
-  well-here : well (recAt log i) ≡ true
+  well-here : well rec ≡ true
   well-here = well-at n log (t .formed) i (t .less)
 
-  room-left : isCrossing (recAt log i) ≡ true → b .clock .crossings < LIFETIME
-  room-left = rw (t .here) (ran-room first log n i (t .life) (t .less))
+  room-left : isCrossing rec ≡ true → clock .crossings < LIFETIME
+  room-left k = omega (arith, ap (λ (b : Board). b .clock .crossings) (t .here .board), ran-room first log n i (t .life) (t .less) k)
 
-  pub coded-at : Coded (codesIn (recAt log i))
-  coded-at = coded (recAt log i) long-at well-here (λ k. rec-bytes log i k long-at (t .bytes))
+  coded-at : Coded (codesIn rec)
+  coded-at = coded rec long-at well-here (λ k. rec-bytes log i k long-at (t .bytes))
 
-  merged-at : (got : List ℕ) → got ≡ voted (kit .merger) (codesIn (recAt log i)) 40 → got ≡ classes (b .settings) (codesIn (recAt log i))
-  merged-at got e = classes-is b (recAt log i) kit own-at got coded-at e
+  byte-at : (k : ℕ) → k < 24 → getD log (24 * i + k) 0 ≡ getD rec k 0
+  byte-at k h = sym (rec-byte log i k h)
 
-  pub step-asked : (got : List ℕ) → got ≡ voted (kit .merger) (codesIn (recAt log i)) 40
-      → (soundBoard b ≡ true)
-      × (kit ≡ kitOf (b .settings))
-      × (got ≡ classes (b .settings) (codesIn (lentAt log i)))
-      × (length (lentAt log i) ≡ 24)
-      × (well (lentAt log i) ≡ true)
-      × (isCrossing (lentAt log i) ≡ true → b .clock .crossings < LIFETIME)
-  step-asked got e =
-      (fit-at .sound, own-at, rw (lent log i) (merged-at got e), rw (lent log i) long-at, rw (lent log i) well-here, rw (lent log i) room-left)
+  pub crossing-kind : getD log (24 * i) 0 ≡ 0 → isCrossing rec ≡ true
+  crossing-kind e = let z : 24 * i + 0 ≡ 24 * i = omega arith in eq-eqb _ _ (rw z at (rec-byte log i 0 (omega arith)) ∙ e)
 
-  pub again-board : (r : Board) → r ≡ stepped b (recAt log i) → r ≡ ran (i + 1) first log
-  unfolding ran
-  again-board r e = e ∙ rw (add-one, t .here)
+  pub command-at : (getD log (24 * i) 0 ≡ 0 → ⊥) → isCrossing rec ≡ false
+  command-at ne = let z : 24 * i + 0 ≡ 24 * i = omega arith in ne-eqb _ _ (λ e. ne (sym (rw z at (rec-byte log i 0 (omega arith))) ∙ e))
 
-  pub again-rows : (old rows part : List ℕ) → 12 * n ≤ length old → rows ≡ rowsOf i first log ++ drop (12 * i) old
-      → part ≡ rowOf b (recAt log i) ++ drop 12 (take (length rows - 12 * i) (drop (12 * i) rows))
-      → putMid (12 * i) (length rows - 12 * i) rows part ≡ rowsOf (i + 1) first log ++ drop (12 * (i + 1)) old
-  unfolding rowsOf
-  again-rows old rows part space e p =
-      let row = rowOf (ran i first log) (recAt log i) in
+  -- ---- the state after a record, where it stands for the board after it
+
+  stands : (kept' : Board) (clock' : Clock) (look' : Look) (shown' : List ℕ) (calm' : Bool) (part : List ℕ) → settled kept' clock' (look' .turn) ≡ stepped now rec
+      → part ≡ rowOf now rec ++ drop 12 (take (length rows - 12 * i) (drop (12 * i) rows)) → length shown' ≡ 8
+      → (isCrossing rec ≡ true → look' .classes ≡ voted (kit .merger) (codesIn rec) 40) → (calm' ≡ true → Calm log (look' .classes) shown' (i + 1) (kept' .ptcs))
+      → Stands first log n old kit (putMid (12 * i) (length rows - 12 * i) rows part) kept' clock' look' shown' calm' (i + 1)
+  unfolding ran rowsOf
+  stands kept' clock' look' shown' calm' part b p w v c =
+      let row = rowOf (ran i first log) rec in
       let eight = t .fit .ptcs in
-      let long = row-of-long (ran i first log) (recAt log i) (ran-ptcs-long first log i ∙ eight) in
-      let room : 12 * i + 12 ≤ length old = omega (arith, t .less, space) in
+      let wide = row-of-long (ran i first log) rec (ran-ptcs-long first log i ∙ eight) in
+      let room : 12 * i + 12 ≤ length old = omega (arith, t .less, t .room) in
       let next : 12 * (i + 1) ≡ 12 * i + 12 = omega arith in
-      rw (next, add-one) (laid (rowsOf i first log) row old (12 * i) 12 (rows-long i first log eight) long room rows part e (p ∙ rw (t .here)))
-
-  pub again-long : (old rows : List ℕ) → 12 * n ≤ length old → rows ≡ rowsOf (i + 1) first log ++ drop (12 * (i + 1)) old → length rows ≡ length old
-  again-long old rows space e = rw (e, length-append, rows-long (i + 1) first log (t .fit .ptcs), length-drop) (omega (arith, t .less))
-
-  pub again-votes : (got : List ℕ) → got ≡ voted (kit .merger) (codesIn (recAt log i)) 40 → got ≡ voted (kit .merger) (codesIn (recAt log (i + 1 - 1))) 40
-  again-votes got e = let z : i + 1 - 1 ≡ i = omega arith in e ∙ rw z
-
-pub again-calm : (got row : List ℕ) (i : ℕ) (b : Board) (followed calm : Bool) → calm ≡ followed && calmUnder got (b .ptcs)
-    → row ≡ if calm (stillRow (b .ptcs)) (replicate 12 0) → calm ≡ true → Calm got row (i + 1) b
-again-calm got row i b followed calm c r holds =
-    record { some = omega arith; under = both followed (calmUnder got (b .ptcs)) (sym c ∙ holds) .1; shows = r ∙ rw holds }
-
--- ---- a plain crossing of a calm board
-
-pub record Still (kit : Kit) (got row : List ℕ) (b : Board) (rec : List ℕ) : Type 0 where
-  pub own : kit ≡ kitOf (b .settings)
-  pub eight : length (b .ptcs) ≡ 8
-  pub low : b .turn .holder < 8
-  pub kind : isCrossing rec ≡ true
-  pub votes : got ≡ voted (kit .merger) (codesIn rec) 40
-  pub merged : got ≡ classes (b .settings) (codesIn rec)
-  pub calm : calmUnder (classes (b .settings) (codesIn rec)) (b .ptcs) ≡ true
-  pub plain : plainCrossing (scheduleOf (b .settings)) (b .clock .next) (b .turn .holder) rec ≡ true
-  pub shows : row ≡ stillRow (b .ptcs)
-
-module _ {first : Board} {log : List ℕ} {n : ℕ} {kit : Kit} {i : ℕ} {b : Board} (t : Begun first log n kit i b) (got row : List ℕ) where
-  pub still-at : (calm r : Bool) → (0 < i → got ≡ voted (kit .merger) (codesIn (recAt log (i - 1))) 40) → (calm ≡ true → Calm got row i b)
-      → r ≡ calm && (plainCrossing (kit .plan .at) (b .clock .next) (b .turn .holder) (recAt log i) && sameCodes 21 (recAt log i) (recAt log (i - 1)))
-      → r ≡ true → Still kit got row b (recAt log i)
-  unfolding kitOf
-  still-at calm r votes rests e holds =
-      let w = both calm _ (sym e ∙ holds) in
-      let a = both (plainCrossing (kit .plan .at) (b .clock .next) (b .turn .holder) (recAt log i)) _ (w .1) in
-      let c = rests (w .0) in
-      let before = rec-long log (i - 1) n (t .long) (omega (arith, t .less)) in
-      let v : got ≡ voted (kit .merger) (codesIn (recAt log i)) 40 = votes (c .some) ∙ rw (same-codes (recAt log i) (recAt log (i - 1)) (long-at t) before (a .1)) in
-      let m = merged-at t got v in
-      let under : calmUnder (classes (b .settings) (codesIn (recAt log i))) (b .ptcs) ≡ true = rw (← m) (c .under) in
-      let plain = rw (own-at t) at (a .0) in
+      let last : i + 1 - 1 ≡ i = omega arith in
+      let out : putMid (12 * i) (length rows - 12 * i) rows part ≡ rowsOf (i + 1) first log ++ drop (12 * (i + 1)) old =
+      rw (next, add-one) (laid (rowsOf i first log) row old (12 * i) 12 (rows-long i first log eight) wide room rows part (t .here .laidOut) (p ∙ rw (t .here .board))) in
       record {
-        own = own-at t;
-        eight = fit-at t .ptcs;
-        low = plain-low b (recAt log i) (fit-at t .ptcs) under plain;
-        kind = plain-kind b (recAt log i) (fit-at t .ptcs) under plain;
-        votes = v;
-        merged = m;
-        calm = under;
-        plain = plain;
-        shows = c .shows;
+        most = omega (arith, t .less);
+        board = b ∙ rw (add-one, t .here .board);
+        laidOut = out;
+        long = rw (out, length-append, rows-long (i + 1) first log eight, length-drop) (omega (arith, t .less, t .room));
+        wide = w;
+        votes = rw last (λ h. v);
+        still = c;
       }
 
-  pub still-asked : Still kit got row b (recAt log i) → (Sensible (kit .rules)) × (Room (holding b)) × (ClockRoom (b .clock)) × (b .clock .crossings < LIFETIME)
-  still-asked s =
-      let sound = fit-at t .sound in
-      let room = room-left t (s .kind) in (
-        scene-asked b kit (s .own) sound .2,
-        room-at (b .turn .holder) (b .clock .crossings) (b .ptcs) (b .turn .holder) room (sound-parts b sound .eight) (rw (s .eight) (s .low)),
-        clock-room b sound,
-        room,
-      )
+  -- ---- a command
 
-module _ (log : List ℕ) (i : ℕ) {kit : Kit} {got row : List ℕ} {b : Board} (s : Still kit got row b (recAt log i)) where
-  pub lone-is : (asked within : Bool) (scene : Scene) (o : Crossed) → asked ≡ not (eqb (getD log (24 * i + 2) 0) 0)
-      → within ≡ asked && free (kit .rules) (kit .blocks) (b .marks) (b .clock .crossings) (eqb (holding b .state) 8) → scene ≡ loneScene b within
-      → o ≡ restedOf (kit .plan) scene (b .turn .holder) asked (holding b) → o ≡ loneOf b (recAt log i)
-  unfolding loneOf kitOf
-  lone-is asked within scene o a f v e = let byte = rec-byte log i 2 (omega arith) in e ∙ rw (v, f, a, byte, s .own)
+  pub named : isCrossing rec ≡ false → getD log (24 * i + 1) 0 ≤ 7
+  named k = rw (byte-at 1 (omega arith)) (command-kind rec well-here k .1)
 
-module _ {kit : Kit} {got row : List ℕ} {b : Board} {rec : List ℕ} (s : Still kit got row b rec) (o : Crossed) (lone : o ≡ loneOf b rec) where
-  pub still-board : (clock : Clock) (marks : List ℕ) (mark : ℕ) → mark ≡ one (o .sent) → marks ≡ passed (b .marks) (b .clock .crossings) mark
-      → clock ≡ tickedOf (kit .orbit) (b .clock) false
-      → record { settings = b .settings; clock = clock; turn = b .turn; ptcs = set (b .ptcs) (b .turn .holder) (o .ptc); marks = marks } ≡ stepped b rec
-  unfolding stepped kitOf
-  still-board clock marks mark k m c =
-      rw (s .kind, board-still b rec (s .eight) (s .calm) (s .plain), c, m, k, s .own, lone)
+  pub command-stands : (o : Commanded) (row part : List ℕ) → isCrossing rec ≡ false
+      → o ≡ commandedOf (kit .plan .waits) (getD log (24 * i + 2) 0) (getD (kept .ptcs) (getD log (24 * i + 1) 0) freshPtc)
+      → row ≡ commandRow (o .taken) → part ≡ row ++ drop 12 (take (length rows - 12 * i) (drop (12 * i) rows))
+      → Stands first log n old kit (putMid (12 * i) (length rows - 12 * i) rows part) (withPtcs kept (set (kept .ptcs) (getD log (24 * i + 1) 0) (o .ptc))) clock look shown false (i + 1)
+  unfolding stepped rowOf boardCommanded rowCommanded commandIn kitOf
+  command-stands o row part k e r p =
+      let is = rw (byte-at 1 (omega arith), byte-at 2 (omega arith), own-at) at e in
+      stands _ clock look shown false part
+      (rw (k, byte-at 1 (omega arith), is))
+      (p ∙ rw (k, r, is))
+      (t .here .wide) (λ z. absurd (false≢true (sym k ∙ z))) (λ z. absurd (false≢true z))
 
-  pub still-part : (part rest : List ℕ) → part ≡ if (o .sent) (set row (b .turn .holder) 16) row ++ rest → part ≡ rowOf b rec ++ rest
-  unfolding rowOf
-  still-part part rest e =
-      e ∙ rw (s .kind, row-still b rec (s .eight) (s .calm) (s .plain), s .shows, lone)
+  -- ---- a crossing
 
-  pub still-calm : (i : ℕ) (next : Board) → next .ptcs ≡ set (b .ptcs) (b .turn .holder) (o .ptc) → Calm got row (i + 1) next
-  still-calm i next e =
-      record {
-        some = omega arith;
-        under = rw (e, lone, s .merged) (calm-stays b rec (s .eight) (s .calm) (s .plain));
-        shows = s .shows ∙ rw (e, lone, row-stays b rec (s .eight) (s .calm) (s .plain));
-      }
+  module _ (kind : isCrossing rec ≡ true) where
+    pub crossing-room : clock .crossings < LIFETIME
+    crossing-room = room-left kind
+
+    pub room-asked : (k : ℕ) → k < 8 → Room (getD (kept .ptcs) k freshPtc)
+    room-asked k h =
+        room-at (look .turn .holder) (clock .crossings) (kept .ptcs) k crossing-room (sound-parts now (fit-at .sound) .eight) (rw ptcs-long h)
+
+    pub clock-asked : ClockRoom clock
+    clock-asked = clock-room now (fit-at .sound)
+
+    pub next-asked : (24 * i + 24 ≤ length log)
+        × (Coded (codesIn rec))
+        × (0 < i → isCrossing (recAt log (i - 1)) ≡ true → look .classes ≡ voted (kit .merger) (codesIn (recAt log (i - 1))) 40)
+        × (SlotRoom (kit .slots))
+        × (look .turn .holder ≤ 8)
+    next-asked =
+        let s = turn-asked now kit own-at (fit-at .sound) in
+        (omega (arith, t .less, t .long), coded-at, t .here .votes, s .0, s .1)
+
+    pub rules-asked : Sensible (kit .rules)
+    rules-asked = scene-asked now kit own-at (fit-at .sound) .2
+
+    module _ (seen : Look) (looks : seen ≡ lookOf (kit .plan .at) (kit .merger) (kit .slots) clock (look .turn) (calm && sameBefore log i) rec)
+        (scene : Scene) (sees : scene ≡ sceneFor (kit .plan) (kit .rules) (kit .blocks) (getD (kept .ptcs) (seen .turn .holder % 8) freshPtc) seen (kept .marks) clock) where
+      votes-at : seen .classes ≡ voted (kit .merger) (codesIn rec) 40
+      unfolding lookOf
+      votes-at = ap (λ (l : Look). l .classes) looks
+
+      requests-at : seen .requests ≡ getD rec 2 0
+      unfolding lookOf
+      requests-at = ap (λ (l : Look). l .requests) looks
+
+      marker-at : seen .marker ≡ markerIn rec
+      unfolding lookOf
+      marker-at = ap (λ (l : Look). l .marker) looks
+
+      turn-at : seen .turn ≡ turnIn now (markerIn rec)
+      unfolding lookOf
+      turn-at = turn-is now rec kit own-at _ _ refl (ap (λ (l : Look). l .turn) looks)
+
+      classes-at : seen .classes ≡ classes (kept .settings) (codesIn rec)
+      classes-at = classes-is now rec kit own-at _ coded-at votes-at
+
+      due-at : seen .due ≡ dueOf (calm && sameBefore log i) (kit .plan .at) (numberOf clock (seen .marker)) (seen .requests)
+      unfolding lookOf
+      due-at = ap (λ (l : Look). l .due) looks ∙ rw (marker-at, requests-at)
+
+      pub due-fits : seen .due < 256
+      due-fits = rw (due-at) (due-low _ _ _ (seen .requests) (rw requests-at (rec-bytes log i 2 long-at (t .bytes))))
+
+      number-at : scene .number ≡ numberOf clock (seen .marker)
+      unfolding sceneFor
+      number-at = ap (λ (s : Scene). s .number) sees
+
+      -- whoever is not due: all were at rest, and the codes go on
+      pub quiet-at : (j : ℕ) → j < 8 → askedIn (seen .due) j ≡ false → Quiet (kit .plan) scene (seen .classes) (seen .requests) (seen .due) (kept .ptcs) shown j
+      quiet-at j h e =
+          let p = passes _ _ _ _ j h (rw due-at at e) in
+          let w = both calm (sameBefore log i) (p .rests) in
+          let c = t .here .still (w .0) in
+          let same : look .classes ≡ seen .classes = same-votes (kit .merger) (look .classes) log i (next-asked .0) (t .here .votes) (w .1) ∙ sym votes-at in
+          let rests = rw same at (c .rests j h) in
+          record { rests = rests; shows = c .shows j h; stays = passed-over _ _ _ _ j _ rests (rw number-at (p .plain)) (p .silent) }
+
+      scene-at : wholeScene (kit .plan) (kit .rules) (kit .blocks) seen (kept .marks) clock (kept .ptcs) ≡ sceneOf now (markerIn rec)
+      unfolding sceneOf kitOf
+      scene-at = rw (marker-at, turn-at, own-at)
+
+      acts-at : (k : ℕ) → k < 8
+          → actOf (kit .plan) scene (seen .classes) (seen .requests) k (getD (kept .ptcs) k freshPtc)
+          ≡ actOf (planOf (kept .settings)) (sceneOf now (markerIn rec)) (classes (kept .settings) (codesIn rec)) (getD rec 2 0) k (getD (kept .ptcs) k freshPtc)
+      unfolding kitOf
+      acts-at k h =
+          let plan : kit .plan ≡ planOf (kept .settings) = rw own-at in
+          ap (λ (s : Scene). actOf (kit .plan) s (seen .classes) (seen .requests) k (getD (kept .ptcs) k freshPtc)) sees
+          ∙ scene-seen (kit .plan) (kit .rules) (kit .blocks) seen (kept .marks) clock (kept .ptcs) k h
+          ∙ rw (scene-at, plan, classes-at, requests-at)
+
+      -- what the loop made of the eight is what the definition makes of them
+      eight-at : {A : Type 0} (g : Crossed → A) (d : A)
+          → mapI (λ k p. g (actOf (kit .plan) scene (seen .classes) (seen .requests) k p)) 0 (kept .ptcs)
+          ≡ mapI (λ k p. g (actOf (planOf (kept .settings)) (sceneOf now (markerIn rec)) (classes (kept .settings) (codesIn rec)) (getD rec 2 0) k p)) 0 (kept .ptcs)
+      eight-at g d =
+          map-is _ (kept .ptcs) freshPtc d _ (length-mapI _ 0 (kept .ptcs))
+          (λ k h. ap g (acts-at k (rw (← ptcs-long) h)) ∙ sym (getD-mapI _ 0 k (kept .ptcs) freshPtc d h ∙ rw zero-add))
+
+      module _ (cur : List Ptc) (bytes shown' : List ℕ) (calm' : Bool) (a : Acted (kit .plan) scene (seen .classes) (seen .requests) (seen .due) (kept .ptcs) shown cur bytes shown' calm') where
+        ptcs-at : cur ≡ eight ptcOf now rec
+        ptcs-at = a .ptcs ∙ eight-at (λ o. o .ptc) freshPtc
+
+        bytes-at : bytes ≡ eight byteOf now rec
+        unfolding byteOf
+        bytes-at = a .sends ∙ eight-at (λ o. rowByte (o .code) (o .sent) (o .cal)) 0
+
+        shown-at : shown' ≡ eight shownOf now rec
+        unfolding shownOf
+        shown-at = a .shows ∙ eight-at (λ o. statusOf (o .ptc .state)) 0
+
+        pub shown-fits : allB (λ s. ltb s 16) shown' ≡ true
+        unfolding shownOf
+        shown-fits = rw shown-at (shown-low (λ k p. actOf _ _ _ _ k p .ptc .state) 0 _)
+
+        calm-at : (kept' : Board) → kept' .ptcs ≡ cur → calm' ≡ true → Calm log (seen .classes) shown' (i + 1) (kept' .ptcs)
+        unfolding shownOf
+        calm-at kept' same z =
+            let last : i + 1 - 1 ≡ i = omega arith in
+            let at : (j : ℕ) → j < 8 → getD (kept' .ptcs) j freshPtc ≡ ptcOf (kit .plan) scene (seen .classes) (seen .requests) j (getD (kept .ptcs) j freshPtc) =
+            λ j h. rw (same, a .ptcs) (getD-mapI _ 0 j (kept .ptcs) freshPtc freshPtc (rw ptcs-long h) ∙ rw zero-add) in
+            record {
+              some = omega arith;
+              kind = rw last kind;
+              rests = λ j h. rw (at j h) (a .rests z j h);
+              shows = λ j h. rw (at j h, a .shows) (sym (getD-mapI _ 0 j (kept .ptcs) freshPtc 0 (rw ptcs-long h) ∙ rw zero-add));
+            }
+
+        pub crossing-stands : (kept' : Board) (carried : Bool) (mark : ℕ) (after : Clock) (marks row part : List ℕ)
+            → carried ≡ carries bytes → mark ≡ one carried → marks ≡ passed (kept .marks) (clock .crossings) mark → after ≡ clockOf (kit .orbit) clock (seen .marker) bytes
+            → kept' ≡ record { settings = kept .settings; clock = kept .clock; turn = kept .turn; ptcs = cur; marks = marks }
+            → row ≡ crossingRow bytes shown' → part ≡ row ++ drop 12 (take (length rows - 12 * i) (drop (12 * i) rows))
+            → Stands first log n old kit (putMid (12 * i) (length rows - 12 * i) rows part) kept' after seen shown' calm' (i + 1)
+        unfolding stepped rowOf boardCrossed rowCrossed kitOf
+        crossing-stands kept' carried mark after marks row part c m k x b r p =
+            stands kept' after seen shown' calm' part
+            (rw (b, kind, k, m, c, x, bytes-at, ptcs-at, turn-at, marker-at, own-at))
+            (p ∙ rw (kind, r, bytes-at, shown-at)) (rw (a .shows, length-mapI) ptcs-long) (λ z. votes-at)
+            (calm-at kept' (ap (λ (y : Board). y .ptcs) b))

@@ -34,16 +34,6 @@ module _ (plan : Plan) (scene : Scene) (classes : List ℕ) (requests k : ℕ) (
   unfolding actOf
   acted asked a e = e ∙ rw a
 
-  pub acted-byte : (r : ℕ) → o ≡ actOf plan scene classes requests k p → r ≡ rowByte (o .code) (o .sent) (o .cal)
-      → r ≡ byteOf plan scene classes requests k p
-  unfolding byteOf
-  acted-byte r e h = h ∙ rw e
-
-  pub acted-shown : (r : ℕ) → o ≡ actOf plan scene classes requests k p → r ≡ statusOf (o .ptc .state)
-      → r ≡ shownOf plan scene classes requests k p
-  unfolding shownOf
-  acted-shown r e h = h ∙ rw e
-
   pub acted-code : o ≡ actOf plan scene classes requests k p → o .code < 16
   unfolding actOf
   acted-code e = rw e (omega (arith, code-fits plan scene k (getD classes k 0) (askedIn requests k) p))

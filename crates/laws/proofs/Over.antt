@@ -7,7 +7,7 @@ use native.Mathlib.Nat.{add-zero, add-suc, suc-add, zero-add, le-of-suc-le-suc, 
 use native.Mathlib.Numerals.{add-one}
 use native.Mathlib.Omega.{arith}
 use lib.ListN.{length, getD, take, drop, set, length-take, List·getD-eq-default, drop-of-length-le}
-use lib.Seq.{take-all}
+use lib.Seq.{take-all, set-getD}
 use Rattle.laws.specs.Base.{mapI, tabulate}
 
 module _ {A : Type 0} where
@@ -61,6 +61,22 @@ module _ {A B : Type 0} (f : ℕ → A → B) where
 
   pub over-whole : (l : List A) (cur old : List B) (n : ℕ) → length l ≡ n → length old ≡ n → cur ≡ over n (mapI f 0 l) old → cur ≡ mapI f 0 l
   over-whole l cur old n h k e = let z : length old ≤ n = omega arith in over-done l cur old n h e ∙ rw (drop-of-length-le old z, append-nil)
+
+  -- places at which the old list has what the new one would have may be passed over
+  over-step : (l : List A) (n : ℕ) (d : A) (old : List B) (e : B) → n < length l → n < length old → f n (getD l n d) ≡ getD old n e
+      → over n (mapI f 0 l) old ≡ over (n + 1) (mapI f 0 l) old
+  over-step l n d old e p q same =
+      let cur = over n (mapI f 0 l) old in
+      let here : getD cur n e ≡ f n (getD l n d) = over-get n (mapI f 0 l) old e (rw length-mapI (omega arith)) ∙ sym same in
+      sym (set-getD cur n e) ∙ over-turn l n d cur old (getD cur n e) p q refl here
+
+  pub over-skip : (l : List A) (d : A) (old : List B) (e : B) (n m : ℕ) → n + m ≤ length l → n + m ≤ length old
+      → ((j : ℕ) → n ≤ j → j < n + m → f j (getD l j d) ≡ getD old j e) → over n (mapI f 0 l) old ≡ over (n + m) (mapI f 0 l) old
+  over-skip l d old e n zero p q same = rw add-zero
+  over-skip l d old e n (suc m) p q same =
+      let next : n + m + 1 ≡ n + suc m = omega arith in
+      over-skip l d old e n m (omega arith) (omega arith) (λ j a b. same j a (omega arith))
+      ∙ rw next at (over-step l (n + m) d old e (omega arith) (omega arith) (same (n + m) (omega arith) (omega arith)))
 
 -- the same where the list is changed in place
 module _ {A : Type 0} (f : ℕ → A → A) (l : List A) where

@@ -93,6 +93,5 @@ one-outcome =
       line-length = λ n v. bounded _ _;
       lines-length = λ κs first values. bounded _ _;
       put-row = λ κs buffer row. filled _;
-      put-still = λ κs buffer row h sent. filled _;
       pass = λ κs ring c x. filled _;
     }

@@ -28,7 +28,6 @@ use Rattle.settings.proofs.Settings.text_length.Reads as settings-length-contra
 use Rattle.throttle.proofs.pass.Reads as pass-contract
 use Rattle.records.proofs.refusal.Reads as refusal-contract
 use Rattle.records.proofs.put_row.Reads as put-row-contract
-use Rattle.still.proofs.put_still.Reads as put-still-contract
 use Rattle.board.proofs.Board.fresh.Reads as fresh-contract
 use Rattle.board.proofs.Board.block.Reads as block-contract
 use Rattle.board.proofs.Board.is_sound.Reads as is-sound-contract
@@ -84,6 +83,4 @@ pub record OneOutcome : Type 0 where
   pub line-length : (n v : ℕ) → OneValue (line-length-contract.Post tt) (n, (v, tt))
   pub lines-length : (κs : Lfts 1) (first : ℕ) (values : Lent) → OneValue (lines-length-contract.Post κs) (first, (values, tt))
   pub put-row : (κs : Lfts 1) (buffer : Lent) (row : List ℕ) → OneFilling (put-row-contract.Post κs) (λ out. (out, (row, tt))) buffer
-  pub put-still : (κs : Lfts 1) (buffer : Lent) (row : List ℕ) (h : ℕ) (sent : Bool)
-      → OneFilling (put-still-contract.Post κs) (λ out. (out, (row, (h, (sent, tt))))) buffer
   pub pass : (κs : Lfts 1) (ring : Lent) (c x : ℕ) → OneFilling (pass-contract.Post κs) (λ marks. (marks, (c, (x, tt)))) ring

@@ -12,7 +12,7 @@ use Rattle.laws.proofs.Bools.{both}
 use Rattle.laws.proofs.Tests.{either}
 use Rattle.settings.specs.declared.names.Schedule.{Schedule}
 use Rattle.states.specs.Names.{running}
-use Rattle.states.specs.Moves.{orbitCode}
+use Rattle.states.specs.Moves.{movedOf, orbitCode}
 use Rattle.states.specs.support.Rest.{resting}
 use Rattle.states.proofs.Rest.{rest-moved}
 use Rattle.ptc.specs.declared.Ptc.{Ptc}
@@ -21,7 +21,7 @@ use Rattle.ptc.specs.declared.Scene.{Scene}
 use Rattle.ptc.specs.declared.counts.Counts.{Counts}
 use Rattle.ptc.specs.Cycle.{keptOf, openedOf, cycleCode, asksOf}
 use Rattle.ptc.specs.Counts.{fateOf, requestedOf, calibratedOf, countedOf}
-use Rattle.ptc.specs.Crossing.{codeOf, crossedOf}
+use Rattle.ptc.specs.Crossing.{freeIn, codeOf, crossedOf}
 use Rattle.ptc.specs.support.Rest.{atRest, restedOf}
 use Rattle.ptc.proofs.Cycles.{open-is-held}
 
@@ -57,6 +57,12 @@ unfolding crossedOf restedOf openedOf cycleCode asksOf
 rest-crossed plan scene k class asked p e =
     let r = read class p e in
     rw (r .wait, r .cycle, rest-moved (plan .at) (plan .waits) k (scene .number) class (p .state) (r .stays), kept-none, counted-request, code-orbit, or-false)
+
+pub rest-state : (plan : Plan) (k number class : ℕ) (p : Ptc) → atRest class p ≡ true
+    → movedOf (plan .at) (plan .waits) k number class (p .state) (p .wait) .state ≡ p .state
+rest-state plan k number class p e =
+    let r = read class p e in
+    rw (r .wait, rest-moved (plan .at) (plan .waits) k number class (p .state) (r .stays))
 
 pub rest-silent : (plan : Plan) (scene : Scene) (k : ℕ) (p : Ptc)
     → restedOf plan scene k false p ≡ record { ptc = p; code = orbitCode (plan .at) (scene .number); sent = false; cal = false }
@@ -95,3 +101,10 @@ unasked-scene plan a b k class asked p n h =
     ⊎-elim
     (λ (other : eqb k (a .holder) ≡ false). rw (← n, ← h, other, unheld-asks))
     (λ (idle : (asked ≡ false) × (p .cycle ≡ 0)). rw (← n, ← h, idle .0, idle .1, kept-none, none-asks))
+
+-- the throttle is looked at in the state after the move alone
+pub moved-scene : (plan : Plan) (a b : Scene) (k class : ℕ) (asked : Bool) (p : Ptc) → a .number ≡ b .number → a .holder ≡ b .holder
+    → (let s = movedOf (plan .at) (plan .waits) k (a .number) class (p .state) (p .wait) .state in freeIn a s ≡ freeIn b s)
+    → crossedOf plan a k class asked p ≡ crossedOf plan b k class asked p
+unfolding crossedOf
+moved-scene plan a b k class asked p n h e = rw (← n, ← h, e)

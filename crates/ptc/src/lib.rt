@@ -128,8 +128,19 @@ impl Ptc {
         }
     }
 
-    // Steps 3 and 4 of a crossing: the move, then the cycle and the trigger by the state after it.
+    // Steps 3 and 4 of a crossing. Most controllers are at rest, and then there is little to do.
     pub fn crossed(self, plan: Plan, scene: Scene, k: u32, class: u8, asked: bool) -> Crossed
+        requires { ⌜ Room self ⌝ }
+        ensures { λ r. ⌜ r ≡ crossedOf plan scene k class asked self ⌝ }
+    {
+        if self.is_at_rest(class) {
+            return self.rested(plan, scene, k, asked);
+        }
+        self.moved(plan, scene, k, class, asked)
+    }
+
+    // The move, then the cycle and the trigger by the state after it.
+    fn moved(self, plan: Plan, scene: Scene, k: u32, class: u8, asked: bool) -> Crossed
         requires { ⌜ Room self ⌝ }
         ensures { λ r. ⌜ r ≡ crossedOf plan scene k class asked self ⌝ }
     {
@@ -175,7 +186,7 @@ impl Ptc {
     }
 
     // A crossing of a controller at rest: only a request changes it.
-    pub fn rested(self, plan: Plan, scene: Scene, k: u32, asked: bool) -> Crossed
+    fn rested(self, plan: Plan, scene: Scene, k: u32, asked: bool) -> Crossed
         requires { ⌜ Room self ⌝ }
         ensures { λ r. ⌜ r ≡ restedOf plan scene k asked self ⌝ }
     {

@@ -1,1 +1,3 @@
-pub mod Plain
+pub mod Passing
+pub mod Seen
+pub mod Acting

@@ -1,4 +1,8 @@
-// A board at rest: most crossings of a log find every controller where it was, and then only the holder's request matters.
+// What a crossing sees before any controller moves, and which controllers it has to look at: most crossings of a log find every
+// controller where it was, and then only those that ask matter.
+use clock::Clock;
+use clock::Turn;
+use ptc::Plan;
 use ptc::Ptc;
 use ptc::Scene;
 use records::RECORD;
@@ -6,17 +10,28 @@ use settings::Rules;
 use settings::Schedule;
 use status::Merger;
 ghost use mathlib.Core.Path.{_≡_};
-ghost use mathlib.Core.Bool.{true, _&&_};
-ghost use mathlib.Core.List.{_++_};
-ghost use Prim.Native.Nat.{_+_, _-_, _*_, _^_, _<_, _≤_};
-ghost use lib.Dec.{ltb};
-ghost use lib.ListN.{length, set, drop, replicate};
-ghost use Rattle.laws.specs.Base.{if};
+ghost use mathlib.Core.Bool.{true, not, _&&_, _||_};
+ghost use Prim.Native.Nat.{_+_, _-_, _*_, _%_, _<_, _≤_};
+ghost use lib.Dec.{eqb};
+ghost use lib.ListN.{length};
 ghost use Rattle.status.specs.Codes.{Coded};
 ghost use Rattle.status.specs.support.Merger.{voted};
-ghost use Rattle.throttle.specs.Rules.{Sensible, free};
-ghost use Rattle.records.specs.Records.{recAt, codesIn, sameCodes};
-ghost use Rattle.still.specs.support.Still.{calmUnder, stillRow, plainNumber, plainRecord, plainCrossing};
+ghost use Rattle.throttle.specs.Rules.{Sensible};
+ghost use Rattle.clock.specs.support.Room.{SlotRoom};
+ghost use Rattle.states.specs.Moves.{movedOf};
+ghost use Rattle.records.specs.Records.{recAt, isCrossing, codesIn, askedIn};
+ghost use Rattle.still.specs.support.Still.{plainNumber, sameBefore, dueOf, nextDue};
+ghost use Rattle.still.specs.support.Look.{lookOf, sceneFor, firstLook};
+
+// What is told from one record to the next, and what this crossing brings.
+pub struct Look {
+    pub turn: Turn,
+    pub classes: [u8; 8],
+    pub marker: bool,
+    pub requests: u8,
+    // A bit for each controller that is looked at.
+    pub due: u8,
+}
 
 fn is_plain_number(at: Schedule, number: u32) -> bool
     ensures { λ r. ⌜ r ≡ plainNumber at number ⌝ }
@@ -24,142 +39,145 @@ fn is_plain_number(at: Schedule, number: u32) -> bool
     number != 0 && (number != at.bc0 && number != at.gap)
 }
 
-// The requests of a crossing in which the holder alone asks.
-fn bit_of(holder: u32) -> u8
-    requires { ⌜ holder < 8 ⌝ }
-    ensures { λ r. ⌜ r ≡ 2 ^ holder ⌝ }
+// Whether the record before record i is a crossing with the same codes.
+fn repeats_crossing(log: &[u8], i: usize) -> bool
+    requires { ⌜ 24 * i + 24 ≤ length (now log) ⌝ }
+    ensures { λ r. ⌜ r ≡ sameBefore (now (log .entry)) i ⌝ }
 {
-    (1u64 << holder as u64) as u8
-}
-
-fn is_plain_record(holder: u32, rec: &[u8]) -> bool
-    requires { ⌜ (holder < 8) × (length (now rec) ≡ 24) ⌝ }
-    ensures { λ r. ⌜ r ≡ plainRecord holder (now (rec .entry)) ⌝ }
-{
-    if rec[0] != 0 {
+    if i == 0 {
         return false;
     }
-    if rec[1] != 0 {
-        return false;
-    }
-    rec[2] == 0 || rec[2] == bit_of(holder)
-}
-
-// Whether record i is a plain crossing of a calm board, with the codes of the record before it.
-pub fn is_still(calm: bool, at: Schedule, number: u32, holder: u32, log: &[u8], i: usize) -> bool
-    requires { ⌜ (calm ≡ true → 0 < i) × (24 * i + 24 ≤ length (now log)) ⌝ }
-    ensures { λ r. ⌜ r ≡ (calm && (plainCrossing at number holder (recAt (now (log .entry)) i) && sameCodes 21 (recAt (now (log .entry)) i) (recAt (now (log .entry)) (i - 1)))) ⌝ }
-{
-    if !calm {
-        return false;
-    }
-    if !is_plain_number(at, number) {
-        return false;
-    }
-    if 7 < holder {
-        return false;
-    }
-    if !is_plain_record(holder, &log[RECORD * i..RECORD * i + RECORD]) {
+    if log[RECORD * (i - 1)] != 0 {
         return false;
     }
     records::repeats(log, i)
 }
 
-// The rules are looked at only where a trigger is asked for.
-pub fn free_if(
-    asked: bool,
-    marks: &[u64; 32],
-    rules: Rules,
-    blocks: bool,
-    n: u64,
-    warn: bool,
-) -> bool
-    requires { ⌜ Sensible rules ⌝ }
-    ensures { λ r. ⌜ r ≡ (asked && free rules blocks (now (marks .entry)) n warn) ⌝ }
+// Those that ask, where no other moves or sends: all are at rest, the codes go on, and nothing falls on the number.
+fn due(still: bool, at: Schedule, number: u32, requests: u8) -> u8
+    ensures { λ r. ⌜ r ≡ dueOf still at number requests ⌝ }
 {
-    if !asked {
-        return false;
+    if !still {
+        return 255;
     }
-    throttle::free(marks, rules, blocks, n, warn)
+    if is_plain_number(at, number) {
+        requests
+    } else {
+        255
+    }
 }
 
-// What the holder alone sees, by the limits of its own state.
-pub fn lone_scene(number: u32, holder: u32, free: bool) -> Scene
-    ensures { λ r. ⌜ r ≡ record { number = number; holder = holder; norm = free; low = free } ⌝ }
+// The first of the eight from k on that is due, or 8.
+pub fn next_due(due: u8, k: usize) -> usize
+    requires { ⌜ k ≤ 8 ⌝ }
+    ensures { λ r. ⌜ r ≡ nextDue due k ⌝ }
 {
+    let rest = due as u64 >> k as u64;
+    if rest == 0 {
+        return 8;
+    }
+    k + u64::trailing_zeros(rest) as usize
+}
+
+// The classes of record i: those of the crossing before it, where it has the same codes.
+fn classes_at(merger: Merger, before: [u8; 8], same: bool, log: &[u8], i: usize) -> [u8; 8]
+    requires { ⌜ (24 * i + 24 ≤ length (now log)) × (Coded (codesIn (recAt (now log) i))) × (same ≡ true → before ≡ voted merger (codesIn (recAt (now log) i)) 40) ⌝ }
+    ensures { λ r. ⌜ r ≡ voted merger (codesIn (recAt (now (log .entry)) i)) 40 ⌝ }
+{
+    if same {
+        return before;
+    }
+    merger.merge(&log[RECORD * i + 3..RECORD * i + RECORD])
+}
+
+impl Look {
+    // Before the first record.
+    pub fn first(turn: Turn) -> Look
+        ensures { λ r. ⌜ r ≡ firstLook turn ⌝ }
+    {
+        Look {
+            turn: turn,
+            classes: [0u8; 8],
+            marker: false,
+            requests: 0,
+            due: 0,
+        }
+    }
+
+    // The look at record i, a crossing. Whether all eight are at rest under the classes before it is told.
+    pub fn next(
+        self,
+        at: Schedule,
+        merger: Merger,
+        slots: &[u32; 8],
+        clock: Clock,
+        calm: bool,
+        log: &[u8],
+        i: usize,
+    ) -> Look
+        requires { ⌜ (24 * i + 24 ≤ length (now log)) × (Coded (codesIn (recAt (now log) i))) × (0 < i → isCrossing (recAt (now log) (i - 1)) ≡ true → self .classes ≡ voted merger (codesIn (recAt (now log) (i - 1))) 40) × (SlotRoom (now slots)) × (self .turn .holder ≤ 8) ⌝ }
+        ensures { λ r. ⌜ r ≡ lookOf at merger (now (slots .entry)) clock (self .turn) (calm && sameBefore (now (log .entry)) i) (recAt (now (log .entry)) i) ⌝ }
+    {
+        let marker = log[RECORD * i + 1] == 1;
+        let requests = log[RECORD * i + 2];
+        let same = repeats_crossing(log, i);
+        let before = self.classes;
+        let classes = classes_at(merger, before, same, log, i);
+        let turn = self.turn.turned(slots, clock.ends_orbit(marker));
+        let number = clock.number(marker);
+        Look {
+            turn: turn,
+            classes: classes,
+            marker: marker,
+            requests: requests,
+            due: due(plain::both(calm, same), at, number, requests),
+        }
+    }
+}
+
+// Whether the holder asks for a trigger, or a cycle of it may.
+fn asks(p: Ptc, holder: u32, requests: u8) -> bool
+    ensures { λ r. ⌜ r ≡ (askedIn requests (holder % 8) || not (eqb (p .cycle) 0)) ⌝ }
+{
+    records::asked(requests, (holder % 8) as usize) || p.cycle != 0
+}
+
+// Whether the holder is in WARN after its move.
+fn is_warned(p: Ptc, plan: Plan, number: u32, holder: u32, class: u8) -> bool
+    ensures { λ r. ⌜ r ≡ eqb (movedOf (plan .at) (plan .waits) holder number class (p .state) (p .wait) .state) 8 ⌝ }
+{
+    if p.is_at_rest(class) {
+        return p.state == 8;
+    }
+    let step = states::advance(plan.at, plan.waits, holder, number, class, p.state, p.wait);
+    step.state == 8
+}
+
+// What all eight see of a crossing. Only the holder, whose value p is, can send: so the rules are looked at only where it asks.
+pub fn scene(
+    plan: Plan,
+    rules: Rules,
+    blocks: bool,
+    p: Ptc,
+    look: Look,
+    marks: &[u64; 32],
+    clock: Clock,
+) -> Scene
+    requires { ⌜ Sensible rules ⌝ }
+    ensures { λ r. ⌜ r ≡ sceneFor plan rules blocks p look (now (marks .entry)) clock ⌝ }
+{
+    let number = clock.number(look.marker);
+    let holder = look.turn.holder;
+    let mut free = false;
+    if asks(p, holder, look.requests) {
+        let h = (holder % 8) as usize;
+        let warn = is_warned(p, plan, number, holder, look.classes[h]);
+        free = throttle::free(marks, rules, blocks, clock.crossings, warn);
+    }
     Scene {
         number: number,
         holder: holder,
         norm: free,
         low: free,
     }
-}
-
-// The row of a still crossing, with the holder's trigger if one was sent.
-pub fn put_still(rows: &mut [u8], row: [u8; 12], h: usize, sent: bool)
-    requires { ⌜ (12 ≤ length (now rows)) × (h < 8) ⌝ }
-    ensures { λ _. ⌜ now (rows .exit) ≡ if sent (set row h 16) row ++ drop 12 (now (rows .entry)) ⌝ }
-{
-    if sent {
-        let mut with = row;
-        with[h] = 16;
-        records::put_row(rows, with);
-        return;
-    }
-    records::put_row(rows, row);
-}
-
-// The classes of record i: those of the record before it, where it has the same codes.
-pub fn classes_at(merger: Merger, before: [u8; 8], log: &[u8], i: usize) -> [u8; 8]
-    requires { ⌜ (24 * i + 24 ≤ length (now log)) × (Coded (codesIn (recAt (now log) i))) × (0 < i → before ≡ voted merger (codesIn (recAt (now log) (i - 1))) 40) ⌝ }
-    ensures { λ r. ⌜ r ≡ voted merger (codesIn (recAt (now (log .entry)) i)) 40 ⌝ }
-{
-    if 0 < i && records::repeats(log, i) {
-        return before;
-    }
-    merger.merge(&log[RECORD * i + 3..RECORD * i + RECORD])
-}
-
-// Whether a record i comes, with the codes of the record before it.
-pub fn is_followed(log: &[u8], i: usize, n: usize) -> bool
-    requires { ⌜ (0 < i) × (length (now log) ≡ 24 * n) × (i ≤ n) ⌝ }
-    ensures { λ r. ⌜ r ≡ (ltb i n && sameCodes 21 (recAt (now (log .entry)) i) (recAt (now (log .entry)) (i - 1))) ⌝ }
-{
-    if n <= i {
-        return false;
-    }
-    records::repeats(log, i)
-}
-
-// Worth a look only where the next record has the same codes.
-pub fn is_calm(ptcs: [Ptc; 8], classes: [u8; 8], followed: bool) -> bool
-    ensures { λ r. ⌜ r ≡ (followed && calmUnder classes ptcs) ⌝ }
-{
-    if !followed {
-        return false;
-    }
-    let mut k = 0;
-    while k < 8 {
-        let p = ptcs[k];
-        if !p.is_at_rest(classes[k]) {
-            return false;
-        }
-        k += 1;
-    }
-    true
-}
-
-pub fn still_row(ptcs: [Ptc; 8], calm: bool) -> [u8; 12]
-    ensures { λ r. ⌜ r ≡ if calm (stillRow ptcs) (replicate 12 0) ⌝ }
-{
-    if !calm {
-        return [0u8; 12];
-    }
-    let mut shown = [0u8; 8];
-    let mut k = 0;
-    while k < 8 {
-        shown[k] = states::status(ptcs[k].state);
-        k += 1;
-    }
-    records::crossing_row([0u8; 8], shown)
 }

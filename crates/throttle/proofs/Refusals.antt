@@ -1,13 +1,22 @@
 -- What each way through the four rules says of `free`: the first that refuses decides, and the last one's answer where none before did.
 -- By opening the list of rules as far as it was looked at.
-use mathlib.Core.Path.{_≡_, sym}
+use mathlib.Core.Path.{_≡_, sym, _∙_}
 use mathlib.Core.Bool.{Bool, true, false, _&&_}
 use mathlib.Core.List.{List}
-use Prim.Native.Nat.{ℕ}
+use Prim.Native.Nat.{ℕ, _+_, _-_}
+use lib.Dec.{leb}
 use Rattle.laws.specs.Base.{allB}
 use Rattle.laws.proofs.Bools.{and-true}
+use Rattle.settings.specs.declared.names.Rule.{Rule}
 use Rattle.settings.specs.declared.names.Rules.{Rules}
-use Rattle.throttle.specs.Rules.{spacingRule, allows, free}
+use Rattle.throttle.specs.Marks.{among}
+use Rattle.throttle.specs.Rules.{spacingRule, limitOf, allows, free}
+
+-- a rule's own count, tested against its limit
+pub allows-is : (ws : List ℕ) (n : ℕ) (warn : Bool) (rule : Rule) (m : ℕ) (t : Bool) → m ≡ among ws n (rule .period - 1)
+    → t ≡ leb (m + 1) (limitOf rule warn) → t ≡ allows ws n warn rule
+unfolding allows
+allows-is ws n warn rule m t e f = f ∙ rw e
 
 module _ (r : Rules) (blocks : Bool) (ws : List ℕ) (n : ℕ) (warn : Bool) where
   pub blocked : (warn && blocks) ≡ true → false ≡ free r blocks ws n warn

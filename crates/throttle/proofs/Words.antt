@@ -49,6 +49,12 @@ unfolding among
 among-split ws n t zero h = rw add-zero (omega arith)
 among-split ws n t (suc r) h = rw (add-suc, among-split ws n t r h, split-back ws n t r h) (omega arith)
 
+-- none are marked where none are looked at
+pub among-none : (ws : List ℕ) (n left : ℕ) → left ≤ 0 → among ws n left ≡ 0
+unfolding among
+among-none ws n zero h = refl
+among-none ws n (suc left) h = absurd (omega arith)
+
 -- none before crossing 0
 beyond : (ws : List ℕ) (n r : ℕ) → among ws n (n + r) ≡ among ws n n
 unfolding among
@@ -64,6 +70,30 @@ among-all ws n k = go (decLt n k)
         let f : n + (k - n) ≡ k = omega arith in
         rw e (rw f at (sym (beyond ws n (k - n))))
     go (no p) = let e : min k n ≡ k = omega arith in rw e
+
+-- a longer count goes on from a shorter one, before its crossings
+pub among-on : (ws : List ℕ) (n j k : ℕ) → j ≤ k → among ws n k ≡ among ws n j + among ws (n - min j n) (k - j)
+among-on ws n j k h = go (decLt n j)
+  where
+    go : Dec (n < j) → among ws n k ≡ among ws n j + among ws (n - min j n) (k - j)
+    go (yes p) =
+        let all : min k n ≡ n = omega arith in
+        let short : min j n ≡ n = omega arith in
+        let none : n - min j n ≡ 0 = omega arith in
+        let first : min (k - j) 0 ≡ 0 = omega arith in
+        let e = rw all at (among-all ws n k) in
+        let f = rw short at (among-all ws n j) in
+        let z : among ws 0 (k - j) ≡ 0 = sym (rw first at (among-all ws 0 (k - j))) ∙ among-none ws 0 0 (omega arith) in
+        let rest : among ws (n - min j n) (k - j) ≡ 0 = rw none z in
+        omega (arith, e, f, rest)
+    go (no p) =
+        let whole : j + (k - j) ≡ k = omega arith in
+        let short : min j n ≡ j = omega arith in
+        rw short (rw whole at (among-split ws n j (k - j) (omega arith)))
+
+-- so the sum of a count and of what lies before is the longer count
+pub goes-on : (ws : List ℕ) (n j k m least v : ℕ) → j ≤ k → m ≡ among ws n j → least ≡ min j n → v ≡ among ws (n - least) (k - j) → m + v ≡ among ws n k
+goes-on ws n j k m least v h e l f = rw (e, f, l) (sym (among-on ws n j k h))
 
 -- a mark in the word of the newest crossing
 word-mark : (ws : List ℕ) (last t : ℕ) → t ≤ last % 64 → markBack ws (last + 1) t ≡ getD ws (last / 64 % 32) 0 / 2 ^ (last % 64 - t) % 2
@@ -100,8 +130,3 @@ count-turn ws end left taken v some fits take is =
 
 pub count-bounded : (taken x v : ℕ) → v ≡ onesIn taken x → v ≤ taken
 count-bounded taken x v is = rw is (ones-in-le taken x)
-
-pub among-none : (ws : List ℕ) (n left : ℕ) → left ≤ 0 → among ws n left ≡ 0
-unfolding among
-among-none ws n zero h = refl
-among-none ws n (suc left) h = absurd (omega arith)

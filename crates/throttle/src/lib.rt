@@ -3,11 +3,12 @@
 use settings::Rule;
 use settings::Rules;
 ghost use mathlib.Core.Path.{_≡_};
-ghost use Prim.Native.Nat.{_+_, _<_, _≤_, _^_};
+ghost use Prim.Native.Nat.{_+_, _-_, _<_, _≤_, _^_};
+ghost use lib.Dec.{leb};
 ghost use lib.Count.{onesIn};
 ghost use Rattle.throttle.specs.Marks.{bitAt, putBit, markAt, marked, passed, among};
 ghost use Rattle.throttle.specs.Sound.{soundMarks};
-ghost use Rattle.throttle.specs.Rules.{limitOf, allows, Sensible, free};
+ghost use Rattle.throttle.specs.Rules.{limitOf, Sensible, free};
 
 fn bit(w: u64, k: u64) -> u64
     requires { ⌜ k < 64 ⌝ }
@@ -106,13 +107,39 @@ fn limit(rule: Rule, warn: bool) -> u32
     if warn { rule.low } else { rule.norm }
 }
 
-// Whether one more trigger now is within a rule, after n crossings.
-fn within(marks: &[u64; 32], n: u64, warn: bool, rule: Rule) -> bool
-    requires { ⌜ 0 < rule .period ⌝ }
-    ensures { λ r. ⌜ r ≡ allows (now (marks .entry)) n warn rule ⌝ }
-{
-    let most = limit(rule, warn);
-    count(marks, n, (rule.period - 1) as u64) + 1 <= most as u64
+// How many of the last crossings are marked.
+struct Counted {
+    crossings: u64,
+    marked: u64,
+}
+
+impl Counted {
+    // The count that a rule goes by. Where its period is longer, what is counted already is not counted again.
+    fn on(self, marks: &[u64; 32], n: u64, rule: Rule) -> Counted
+        requires { ⌜ (self .marked ≡ among (now marks) n (self .crossings)) × (0 < rule .period) ⌝ }
+        ensures { λ r. ⌜ (r .crossings ≡ rule .period - 1) × (r .marked ≡ among (now (marks .entry)) n (rule .period - 1)) ⌝ }
+    {
+        let k = (rule.period - 1) as u64;
+        if k < self.crossings {
+            return Counted {
+                crossings: k,
+                marked: count(marks, n, k),
+            };
+        }
+        let before = n - plain::least(self.crossings, n);
+        Counted {
+            crossings: k,
+            marked: self.marked + count(marks, before, k - self.crossings),
+        }
+    }
+
+    // Whether one more trigger now is within a rule.
+    fn is_within(self, rule: Rule, warn: bool) -> bool
+        ensures { λ r. ⌜ r ≡ leb (self .marked + 1) (limitOf rule warn) ⌝ }
+    {
+        let most = limit(rule, warn);
+        self.marked < most as u64
+    }
 }
 
 // Whether a trigger is free after n crossings, by the low limits under warning. The first rule that refuses decides.
@@ -128,14 +155,23 @@ pub fn free(marks: &[u64; 32], rules: Rules, blocks: bool, n: u64, warn: bool) -
         norm: 1,
         low: 1,
     };
-    if !within(marks, n, warn, spacing) {
+    let none = Counted {
+        crossings: 0,
+        marked: 0,
+    };
+    let first = none.on(marks, n, spacing);
+    if !first.is_within(spacing, warn) {
         return false;
     }
-    if !within(marks, n, warn, rules.second) {
+    let second = first.on(marks, n, rules.second);
+    if !second.is_within(rules.second, warn) {
         return false;
     }
-    if !within(marks, n, warn, rules.third) {
+    let third = second.on(marks, n, rules.third);
+    if !third.is_within(rules.third, warn) {
         return false;
     }
-    within(marks, n, warn, rules.fourth)
+    third
+        .on(marks, n, rules.fourth)
+        .is_within(rules.fourth, warn)
 }

@@ -1,27 +1,13 @@
 -- `still::classes_at` meets its contract: the same codes have the same votes, and else they are counted again.
 -- What is lent are the codes of record i.
-use mathlib.Core.Path.{_≡_, sym, _∙_}
-use Prim.Native.Nat.{_-_}
-use native.Mathlib.Omega.{arith}
+use mathlib.Core.Path.{_∙_}
 use borrow.Author.Needs.{needs}
-use lib.ListN.{length, length-take, length-drop}
-use Rattle.records.specs.Records.{recAt}
-use Rattle.records.proofs.Laws.{same-codes, codes-lent}
+use Rattle.records.proofs.Laws.{codes-lent}
 use Rattle.still.proofs.classes_at.Statement.{statement}
 use Rattle.still.proofs.classes_at.Tie as tie
 
-repeats-requires : tie.Need-repeats-requires
-repeats-requires c κs = search needs
-
 returns : tie.Need-returns
-returns c =
-    let s = c .before .before .before .before in
-    let log = s .args .log .now in
-    let i = s .args .i in
-    let some = c .before .before .if1 .taken in
-    let here : length (recAt log i) ≡ 24 = rw (length-take, length-drop) (omega (arith, s .pre .0)) in
-    let there : length (recAt log (i - 1)) ≡ 24 = rw (length-take, length-drop) (omega (arith, s .pre .0)) in
-    s .pre .2 some ∙ rw (same-codes (recAt log i) (recAt log (i - 1)) here there (sym (c .before .repeats .ensures) ∙ c .if2 .taken))
+returns c = c .before .before .pre .2 (c .if1 .taken)
 
 mul-merge : tie.Need-mul-merge
 mul-merge c = search needs
@@ -54,7 +40,6 @@ pub classes-at-spec : {M : Type 1} → statement M
 classes-at-spec =
     tie.close
     (tie.spec
-    repeats-requires
     returns
     mul-merge
     add-merge

@@ -1,320 +1,458 @@
--- `board::Board::run` meets its contract: after i records the board and the rows are those of the first i.
--- A turn is the law of one record more, or of a plain crossing of a calm board; the board of each turn is sound, since records keep it so.
-use mathlib.Core.Path.{_≡_, refl}
-use mathlib.Core.Bool.{true, false≢true}
-use mathlib.Core.List.{_++_}
-use Prim.Native.Nat.{_+_, _*_, _-_, _^_, _≤_, _<_}
-use native.Mathlib.Nat.{not-suc-le-zero}
+-- `board::Board::run` meets its contract: before record i the state of the loop stands for the board after the records before it.
+-- A turn is the law of its path: a command, or a crossing whose eight were gone over as far as they are due.
+use mathlib.Core.Path.{_≡_, refl, ap, sym, _∙_}
+use mathlib.Core.Bool.{true, false}
+use mathlib.Core.List.{List}
+use Prim.Native.Nat.{ℕ, _+_, _*_, _-_, _%_, _^_, _≤_, _<_}
 use native.Mathlib.Omega.{arith}
 use borrow.Author.Needs.{needs}
-use lib.ListN.{length, drop, length-take, length-drop}
+use lib.ListN.{length, getD, set, length-take, length-drop, length-set}
 use Rattle.laws.proofs.Bools.{one-le}
 use Rattle.laws.proofs.Tests.{mapped-long}
-use Rattle.status.specs.support.Merger.{voted}
-use Rattle.throttle.specs.Rules.{Sensible}
-use Rattle.clock.specs.support.Room.{ClockRoom}
-use Rattle.ptc.specs.support.Room.{Room}
-use Rattle.records.specs.Records.{recAt, codesIn}
-use Rattle.records.specs.Refusal.{LIFETIME}
-use Rattle.records.proofs.Laws.{lent}
+use Rattle.throttle.specs.Marks.{passed}
+use Rattle.ptc.specs.declared.Ptc.{Ptc}
+use Rattle.ptc.specs.Fresh.{freshPtc}
+use Rattle.records.specs.Records.{recAt, isCrossing, askedIn}
+use Rattle.eight.specs.Eight.{actOf}
+use Rattle.eight.proofs.Eight.{acted, acted-code}
+use Rattle.still.proofs.Passing.{next-after, next-most}
+use Rattle.still.proofs.Acting.{Quiet, Acting, Acted, acting-first, acting-at, acting-next, acting-last}
+use Rattle.board.specs.declared.Board.{Board}
+use Rattle.board.specs.Crossing.{withPtcs}
 use Rattle.board.specs.Run.{ran, rowsOf}
 use Rattle.board.proofs.Keeps.{Fit}
-use Rattle.board.proofs.Calm.{holding, loneOf}
-use Rattle.board.proofs.Turn.{Begun, Calm, Still, coded-at, step-asked, again-board, again-rows, again-long, again-votes, again-calm, still-at, still-asked, lone-is, still-board, still-part, still-calm}
+use Rattle.board.proofs.Turn.{Stands, Begun, stands-first, ptcs-long, crossing-kind, command-at, named, command-stands, crossing-room, clock-asked, next-asked, rules-asked, room-asked, due-fits, quiet-at, shown-fits, crossing-stands}
 use Rattle.board.proofs.Board.run.Statement.{statement}
 use Rattle.board.proofs.Board.run.Tie as tie
 
+abbrev Inv-loop2 : tie.InvT-loop2
+Inv-loop2 log n rows self₀ kit clock look shown₀ calm₀ i classes scene bytes₀ k₀ self shown calm bytes k =
+    (self ≡ withPtcs self₀ (self .ptcs))
+    × (Acting (kit .plan) scene (look .classes) (look .requests) (look .due) (self₀ .ptcs) shown₀ k (self .ptcs) bytes shown calm)
+
+abbrev μ-loop2 : tie.MeasureT-loop2
+μ-loop2 log n rows self₀ kit clock look shown₀ calm₀ i classes scene bytes₀ k₀ self shown calm bytes k = 8 - k
+
 abbrev Inv-loop : tie.InvT-loop
-Inv-loop log n rows₀ self₀ kit classes₀ row₀ calm₀ i₀ rows self classes row calm i =
-    (i ≤ n)
-    × (self ≡ ran i self₀ log)
-    × (rows ≡ rowsOf i self₀ log ++ drop (12 * i) rows₀)
-    × (length rows ≡ length rows₀)
-    × (0 < i → classes ≡ voted (kit .merger) (codesIn (recAt log (i - 1))) 40)
-    × (calm ≡ true → Calm classes row i self)
+Inv-loop log n rows₀ self₀ kit clock₀ look₀ shown₀ calm₀ i₀ rows self clock look shown calm i =
+    Stands self₀ log n rows₀ kit rows self clock look shown calm i
 
 abbrev μ-loop : tie.MeasureT-loop
-μ-loop log n rows₀ self₀ kit classes₀ row₀ calm₀ i₀ rows self classes row calm i = n - i
+μ-loop log n rows₀ self₀ kit clock₀ look₀ shown₀ calm₀ i₀ rows self clock look shown calm i = n - i
 
--- ---- from where the loop's test was passed, where the board was found still, and where the holder was asked
+-- ---- the ways back: to the turn's begin, to where the record was found a crossing, and to where it was looked at
 
-abbrev start : tie.In-loop Inv-loop μ-loop → tie.Start Inv-loop μ-loop
-start c = c .before .before .before .before .before .before
+abbrev start : tie.In-loop Inv-loop2 μ-loop2 Inv-loop μ-loop → tie.Start Inv-loop2 μ-loop2 Inv-loop μ-loop
+start c = c .before .before .before .before .before .before .before .before .before
 
-abbrev turn : tie.Then1 Inv-loop μ-loop → tie.In-loop Inv-loop μ-loop
-turn c = c .before .before .before
+abbrev obeying : tie.After-command Inv-loop2 μ-loop2 Inv-loop μ-loop → tie.Then1 Inv-loop2 μ-loop2 Inv-loop μ-loop
+obeying c = c .before .before .before .before .before
 
-abbrev found : tie.After-rested Inv-loop μ-loop → tie.Then1 Inv-loop μ-loop
-found c = c .before .before .before .before .before .before .before .before
+abbrev crossing : tie.After-next Inv-loop2 μ-loop2 Inv-loop μ-loop → tie.Else1 Inv-loop2 μ-loop2 Inv-loop μ-loop
+crossing c = c .before .before .before .before .before
 
-abbrev begin : tie.After-step Inv-loop μ-loop → tie.In-loop Inv-loop μ-loop
-begin c = c .before .before .before .before .before .before .before
+abbrev looking : tie.After-scene Inv-loop2 μ-loop2 Inv-loop μ-loop → tie.After-next Inv-loop2 μ-loop2 Inv-loop μ-loop
+looking c = c .before .before .before .before .before .before .before .before
+
+abbrev seeing : tie.In-loop2 Inv-loop2 μ-loop2 Inv-loop μ-loop → tie.After-scene Inv-loop2 μ-loop2 Inv-loop μ-loop
+seeing c = c .before .before .before
+
+abbrev acting : tie.After-crossed Inv-loop2 μ-loop2 Inv-loop μ-loop → tie.In-loop2 Inv-loop2 μ-loop2 Inv-loop μ-loop
+acting c = c .before .before .before .before
 
 -- ---- what is known there
 
-fit : (c : tie.Start Inv-loop μ-loop) → Fit (c .args .t1)
+fit : (c : tie.Start Inv-loop2 μ-loop2 Inv-loop μ-loop) → Fit (c .args .t1)
 fit c = record { ptcs = search (needs, mapped-long); marks = search needs; sound = c .pre .0 }
 
-begun : (c : tie.In-loop Inv-loop μ-loop) →
+begun : (c : tie.In-loop Inv-loop2 μ-loop2 Inv-loop μ-loop) →
     let a = start c .args in
-    Begun (a .t1) (a .log .now) (a .n) (c .before .before .of .result) (c .before .loop .i) (c .before .loop .self)
+    let l = c .before .loop in
+    Begun (a .t1) (a .log .now) (a .n) (a .rows .now) (c .before .before .before .before .before .of .result) (l .rows) (l .self) (l .clock) (l .look) (l .shown) (l .calm) (l .i)
 begun c =
-    let k = c .before .before in
     let s = start c in
     record {
       fit = fit s;
       long = s .pre .1;
+      room = s .pre .2;
       formed = s .pre .3;
       life = s .pre .4;
-      bytes = λ n. k .before .before .before .shared-slice-known .given n .fits;
-      made = k .of .ensures;
+      bytes = λ n. c .before .before .before .before .before .before .before .before .shared-slice-known .given n .fits;
+      made = c .before .before .before .before .before .of .ensures;
       less = c .loop-test .taken;
-      here = c .before .loop .inv .1;
+      here = c .before .loop .inv;
     }
 
-fits : (c : tie.In-loop Inv-loop μ-loop) → (12 * c .before .loop .i < 2 ^ 64) × (12 * c .before .loop .i + 12 ≤ length (c .before .loop .rows))
-fits c = search needs
+fits : (c : tie.In-loop Inv-loop2 μ-loop2 Inv-loop μ-loop) →
+    (12 * c .before .loop .i < 2 ^ 64) × (12 * c .before .loop .i + 12 ≤ length (c .before .loop .rows)) × (24 * c .before .loop .i + 24 ≤ length (start c .args .log .now))
+fits c =
+    let t = begun c in
+    let s : 12 * c .before .loop .i + 12 ≤ length (c .before .loop .rows) = omega (arith, t .less, t .room, t .here .long) in
+    (search needs, s, omega (arith, t .less, t .long))
 
-still : (c : tie.Then1 Inv-loop μ-loop) →
-    let l = turn c .before .loop in
-    Still (turn c .before .before .of .result) (l .classes) (l .row) (l .self) (recAt (start (turn c) .args .log .now) (l .i))
-still c =
-    let l = turn c .before .loop in
-    still-at (begun (turn c)) (l .classes) (l .row) (l .calm) _ (l .inv .4) (l .inv .5) (c .before .is-still .ensures) (c .if1 .taken)
+abbrev turn : tie.After-scene Inv-loop2 μ-loop2 Inv-loop μ-loop → tie.In-loop Inv-loop2 μ-loop2 Inv-loop μ-loop
+turn c = crossing (looking c) .before .before
 
-asks : (c : tie.Then1 Inv-loop μ-loop) →
-    let b = turn c .before .loop .self in
-    (Sensible (turn c .before .before .of .result .rules)) × (Room (holding b)) × (ClockRoom (b .clock)) × (b .clock .crossings < LIFETIME)
-asks c = still-asked (begun (turn c)) _ _ (still c)
+abbrev withMarks : List ℕ → Board → Board
+withMarks marks b = record { settings = b .settings; clock = b .clock; turn = b .turn; ptcs = b .ptcs; marks = marks }
 
-lone : (c : tie.After-rested Inv-loop μ-loop) →
-    let t = turn (found c) in
-    c .rested .result ≡ loneOf (t .before .loop .self) (recAt (start t .args .log .now) (t .before .loop .i))
-lone c =
-    let t = turn (found c) in
-    lone-is (start t .args .log .now) (t .before .loop .i) (still (found c)) _ _ _ _ refl (c .before .before .free-if .ensures) (c .before .lone-scene .ensures) (c .rested .ensures)
+obeyed : (c : tie.Then1 Inv-loop2 μ-loop2 Inv-loop μ-loop) → isCrossing (recAt (start (c .before .before) .args .log .now) (c .before .before .before .loop .i)) ≡ false
+obeyed c = command-at (begun (c .before .before)) (c .if1 .taken)
+
+naming : (c : tie.Then1 Inv-loop2 μ-loop2 Inv-loop μ-loop) → getD (start (c .before .before) .args .log .now) (24 * c .before .before .before .loop .i + 1) 0 ≤ 7
+naming c = named (begun (c .before .before)) (obeyed c)
+
+crossed-at : (c : tie.Else1 Inv-loop2 μ-loop2 Inv-loop μ-loop) → isCrossing (recAt (start (c .before .before) .args .log .now) (c .before .before .before .loop .i)) ≡ true
+crossed-at c = crossing-kind (begun (c .before .before)) (c .if1 .left)
+
+-- ---- of a crossing that was looked at
+
+module _ (s : tie.After-scene Inv-loop2 μ-loop2 Inv-loop μ-loop) where
+  long-at : length (turn s .before .loop .self .ptcs) ≡ 8
+  long-at = ptcs-long (begun (turn s))
+
+  wide-at : length (turn s .before .loop .shown) ≡ 8
+  wide-at = turn s .before .loop .inv .wide
+
+  low-at : looking s .next .result .due < 256
+  low-at = due-fits (begun (turn s)) (crossed-at (crossing (looking s))) _ (looking s .next .ensures) _ (s .scene .ensures)
+
+  quiet : (j : ℕ) → j < 8 → askedIn (looking s .next .result .due) j ≡ false
+      → Quiet (turn s .before .before .before .before .before .of .result .plan) (s .scene .result) (looking s .next .result .classes) (looking s .next .result .requests)
+      (looking s .next .result .due) (turn s .before .loop .self .ptcs) (turn s .before .loop .shown) j
+  quiet = quiet-at (begun (turn s)) (crossed-at (crossing (looking s))) _ (looking s .next .ensures) _ (s .scene .ensures)
+
+-- the controller that was copied out is as it was before the crossing
+copied : (l : tie.In-loop2 Inv-loop2 μ-loop2 Inv-loop μ-loop) → getD (l .before .loop2 .self .ptcs) (l .before .loop2 .k) freshPtc ≡ getD (turn (seeing l) .before .loop .self .ptcs) (l .before .loop2 .k) freshPtc
+copied l =
+    let s = seeing l in
+    acting-at _ _ _ _ _ _ _ (long-at s) (wide-at s) (low-at s) (quiet s) (l .before .loop2 .k) _ _ _ _ (l .loop2-test .taken) (l .before .loop2 .inv .1)
+
+told : (c : tie.After-crossed Inv-loop2 μ-loop2 Inv-loop μ-loop) →
+    let l = acting c in
+    let n = looking (seeing l) .next .result in
+    c .crossed .result ≡ actOf (turn (seeing l) .before .before .before .before .before .of .result .plan) (seeing l .scene .result) (n .classes) (n .requests) (l .before .loop2 .k) (getD (l .before .loop2 .self .ptcs) (l .before .loop2 .k) freshPtc)
+told c = acted _ _ _ _ _ _ _ _ (c .before .asked .ensures) (c .crossed .ensures)
+
+acted-at : (c : tie.After-loop2 Inv-loop2 μ-loop2 Inv-loop μ-loop) →
+    let s = c .before .before .before in
+    let n = looking s .next .result in
+    let l = c .before .loop2 in
+    Acted (turn s .before .before .before .before .before .of .result .plan) (s .scene .result) (n .classes) (n .requests) (n .due) (turn s .before .loop .self .ptcs) (turn s .before .loop .shown)
+    (l .self .ptcs) (l .bytes) (l .shown) (l .calm)
+acted-at c =
+    let s = c .before .before .before in
+    acting-last _ _ _ _ _ _ _ (long-at s) (wide-at s) (low-at s) (quiet s) (c .before .loop2 .k) _ _ _ _ (omega (arith, c .loop2-test .left)) (c .before .loop2 .inv .1)
 
 -- ---- the needs
 
-of-requires : tie.Need-of-requires Inv-loop μ-loop
+of-requires : tie.Need-of-requires Inv-loop2 μ-loop2 Inv-loop μ-loop
 of-requires c κs = search needs
 
-loop-holds : tie.Need-loop-holds Inv-loop μ-loop
-unfolding ran rowsOf
-loop-holds c = (search needs, refl, refl, refl, λ h. absurd (not-suc-le-zero h), λ e. absurd (false≢true e))
+first-requires : tie.Need-first-requires Inv-loop2 μ-loop2 Inv-loop μ-loop
+first-requires c κs = search needs
 
-mul-at : tie.Need-mul-at Inv-loop μ-loop
-mul-at c = search needs
+loop-holds : tie.Need-loop-holds Inv-loop2 μ-loop2 Inv-loop μ-loop
+loop-holds c = stands-first _ _ _ _ _ _ (c .first .ensures)
 
-is-still-requires : tie.Need-is-still-requires Inv-loop μ-loop
-is-still-requires c κs =
-    let l = c .before .before .loop in
-    (λ e. l .inv .5 e .some, omega (arith, c .before .loop-test .taken, c .before .before .before .before .before .before .before .pre .1))
+mul-if1 : tie.Need-mul-if1 Inv-loop2 μ-loop2 Inv-loop μ-loop
+mul-if1 c = search (needs, fits c)
 
-cast-h : tie.Need-cast-h Inv-loop μ-loop
-cast-h c = search (needs, still c .low)
+shared-slice-read-if1 : tie.Need-shared-slice-read-if1 Inv-loop2 μ-loop2 Inv-loop μ-loop
+shared-slice-read-if1 c = search (needs, fits (c .before))
 
-mul-p : tie.Need-mul-p Inv-loop μ-loop
-mul-p c = search (needs, still c .low)
+mul-c : tie.Need-mul-c Inv-loop2 μ-loop2 Inv-loop μ-loop
+mul-c c = search (needs, fits (c .before .before))
 
-element-copy-out-p : tie.Need-element-copy-out-p Inv-loop μ-loop
-element-copy-out-p c = search (needs, still c .low)
+add-c : tie.Need-add-c Inv-loop2 μ-loop2 Inv-loop μ-loop
+add-c c = search (needs, fits (c .before .before))
 
-add-asked : tie.Need-add-asked Inv-loop μ-loop
-add-asked c = search needs
+shared-slice-read-c : tie.Need-shared-slice-read-c Inv-loop2 μ-loop2 Inv-loop μ-loop
+shared-slice-read-c c = search (needs, fits (c .before .before .before))
 
-shared-slice-read-asked : tie.Need-shared-slice-read-asked Inv-loop μ-loop
-shared-slice-read-asked c = search needs
+cast-c : tie.Need-cast-c Inv-loop2 μ-loop2 Inv-loop μ-loop
+cast-c c = search (needs, naming (c .before))
 
-free-if-requires : tie.Need-free-if-requires Inv-loop μ-loop
-free-if-requires c κs = asks (c .before .before .before .before .before) .0
+mul-p : tie.Need-mul-p Inv-loop2 μ-loop2 Inv-loop μ-loop
+mul-p c = search (needs, naming (c .before))
 
-lone-scene-requires : tie.Need-lone-scene-requires Inv-loop μ-loop
-lone-scene-requires c κs = search needs
+element-copy-out-p : tie.Need-element-copy-out-p Inv-loop2 μ-loop2 Inv-loop μ-loop
+element-copy-out-p c = search (needs, naming (c .before))
 
-rested-requires : tie.Need-rested-requires Inv-loop μ-loop
-rested-requires c κs = asks (c .before .before .before .before .before .before .before) .1
+mul-command : tie.Need-mul-command Inv-loop2 μ-loop2 Inv-loop μ-loop
+mul-command c = search (needs, fits (c .before .before .before .before .before))
 
-mul-q : tie.Need-mul-q Inv-loop μ-loop
-mul-q c = search (needs, still (found (c .before)) .low)
+add-command : tie.Need-add-command Inv-loop2 μ-loop2 Inv-loop μ-loop
+add-command c = search (needs, fits (c .before .before .before .before .before))
 
-element-set-from-q : tie.Need-element-set-from-q Inv-loop μ-loop
-element-set-from-q c = search (needs, still (found (c .before)) .low)
+shared-slice-read-command : tie.Need-shared-slice-read-command Inv-loop2 μ-loop2 Inv-loop μ-loop
+shared-slice-read-command c = search (needs, fits (c .before .before .before .before .before .before))
 
-one-requires : tie.Need-one-requires Inv-loop μ-loop
+command-requires : tie.Need-command-requires Inv-loop2 μ-loop2 Inv-loop μ-loop
+command-requires c κs = search needs
+
+mul-q : tie.Need-mul-q Inv-loop2 μ-loop2 Inv-loop μ-loop
+mul-q c = search (needs, naming (c .before .before .before .before .before .before))
+
+element-set-from-q : tie.Need-element-set-from-q Inv-loop2 μ-loop2 Inv-loop μ-loop
+element-set-from-q c = search (needs, naming (c .before .before .before .before .before .before))
+
+mul-put-row : tie.Need-mul-put-row Inv-loop2 μ-loop2 Inv-loop μ-loop
+mul-put-row c = search (needs, fits (c .before .before .before .before .before .before .before .before))
+
+sub-put-row : tie.Need-sub-put-row Inv-loop2 μ-loop2 Inv-loop μ-loop
+sub-put-row c = search (needs, fits (c .before .before .before .before .before .before .before .before))
+
+part-put-row-start : tie.Need-part-put-row-start Inv-loop2 μ-loop2 Inv-loop μ-loop
+part-put-row-start c = search (needs, fits (c .before .before .before .before .before .before .before .before))
+
+part-put-row-end : tie.Need-part-put-row-end Inv-loop2 μ-loop2 Inv-loop μ-loop
+part-put-row-end c = search needs
+
+command-row-requires : tie.Need-command-row-requires Inv-loop2 μ-loop2 Inv-loop μ-loop
+command-row-requires c κs = search needs
+
+put-row-requires : tie.Need-put-row-requires Inv-loop2 μ-loop2 Inv-loop μ-loop
+put-row-requires c κs = rw (length-take, length-drop) (omega (arith, fits (c .before .before .before .before .before .before .before .before .before .before)))
+
+add-i : tie.Need-add-i Inv-loop2 μ-loop2 Inv-loop μ-loop
+add-i c = search (needs, fits (c .before .before .before .before .before .before .before .before .before .before .before .before .before))
+
+loop-less : tie.Need-loop-less Inv-loop2 μ-loop2 Inv-loop μ-loop
+loop-less c = search (needs, (c .before .before .before .before .before .before .before .before .before .before .before .before .before) .loop-test .taken)
+
+loop-again : tie.Need-loop-again Inv-loop2 μ-loop2 Inv-loop μ-loop
+loop-again c =
+    let o = c .before .before .before .before .before .before in
+    let t = obeying o in
+    command-stands (begun (t .before .before)) _ _ _ (obeyed t) (o .command .ensures) (c .before .before .before .command-row .ensures) (c .before .before .put-row .ensures)
+
+next-requires : tie.Need-next-requires Inv-loop2 μ-loop2 Inv-loop μ-loop
+next-requires c κs = next-asked (begun (c .before .before .before .before .before .before)) (crossed-at (c .before .before .before .before))
+
+cast-holder : tie.Need-cast-holder Inv-loop2 μ-loop2 Inv-loop μ-loop
+cast-holder c = search needs
+
+mul-holder : tie.Need-mul-holder Inv-loop2 μ-loop2 Inv-loop μ-loop
+mul-holder c = search needs
+
+element-copy-out-holder : tie.Need-element-copy-out-holder Inv-loop2 μ-loop2 Inv-loop μ-loop
+element-copy-out-holder c = search needs
+
+scene-requires : tie.Need-scene-requires Inv-loop2 μ-loop2 Inv-loop μ-loop
+scene-requires c κs = rules-asked (begun (c .before .before .before .before .before .before .before .before .before .before .before .before .before .before)) (crossed-at (c .before .before .before .before .before .before .before .before .before .before .before .before))
+
+next-due-requires : tie.Need-next-due-requires Inv-loop2 μ-loop2 Inv-loop μ-loop
+next-due-requires c κs = search needs
+
+loop2-holds : tie.Need-loop2-holds Inv-loop2 μ-loop2 Inv-loop μ-loop
+loop2-holds c =
+    let s = c .before in
+    (refl, acting-first _ _ _ _ _ _ _ (long-at s) (wide-at s) (low-at s) (quiet s) _ _ _ _ refl refl refl (c .next-due .ensures))
+
+mul-p-2 : tie.Need-mul-p-2 Inv-loop2 μ-loop2 Inv-loop μ-loop
+mul-p-2 c = search needs
+
+element-copy-out-p-2 : tie.Need-element-copy-out-p-2 Inv-loop2 μ-loop2 Inv-loop μ-loop
+element-copy-out-p-2 c = search needs
+
+cast-crossed : tie.Need-cast-crossed Inv-loop2 μ-loop2 Inv-loop μ-loop
+cast-crossed c = search needs
+
+array-read-crossed : tie.Need-array-read-crossed Inv-loop2 μ-loop2 Inv-loop μ-loop
+array-read-crossed c = search needs
+
+asked-requires : tie.Need-asked-requires Inv-loop2 μ-loop2 Inv-loop μ-loop
+asked-requires c κs = search needs
+
+crossed-requires : tie.Need-crossed-requires Inv-loop2 μ-loop2 Inv-loop μ-loop
+crossed-requires c κs =
+    let l = c .before .before .before in
+    let s = seeing l in
+    rw (copied l) (room-asked (begun (turn s)) (crossed-at (crossing (looking s))) (l .before .loop2 .k) (l .loop2-test .taken))
+
+row-byte-requires : tie.Need-row-byte-requires Inv-loop2 μ-loop2 Inv-loop μ-loop
+row-byte-requires c κs = acted-code _ _ _ _ _ _ _ (told (c .before))
+
+array-write-bytes : tie.Need-array-write-bytes Inv-loop2 μ-loop2 Inv-loop μ-loop
+array-write-bytes c = search needs
+
+status-requires : tie.Need-status-requires Inv-loop2 μ-loop2 Inv-loop μ-loop
+status-requires c κs = search needs
+
+array-write-shown : tie.Need-array-write-shown Inv-loop2 μ-loop2 Inv-loop μ-loop
+array-write-shown c = search needs
+
+array-read-is-at-rest : tie.Need-array-read-is-at-rest Inv-loop2 μ-loop2 Inv-loop μ-loop
+array-read-is-at-rest c = search needs
+
+is-at-rest-requires : tie.Need-is-at-rest-requires Inv-loop2 μ-loop2 Inv-loop μ-loop
+is-at-rest-requires c κs = search needs
+
+both-requires : tie.Need-both-requires Inv-loop2 μ-loop2 Inv-loop μ-loop
+both-requires c κs = search needs
+
+mul-q-2 : tie.Need-mul-q-2 Inv-loop2 μ-loop2 Inv-loop μ-loop
+mul-q-2 c = search needs
+
+element-set-from-q-2 : tie.Need-element-set-from-q-2 Inv-loop2 μ-loop2 Inv-loop μ-loop
+element-set-from-q-2 c = search needs
+
+add-next-due : tie.Need-add-next-due Inv-loop2 μ-loop2 Inv-loop μ-loop
+add-next-due c = search needs
+
+next-due-requires-2 : tie.Need-next-due-requires-2 Inv-loop2 μ-loop2 Inv-loop μ-loop
+next-due-requires-2 c κs = search needs
+
+loop2-less : tie.Need-loop2-less Inv-loop2 μ-loop2 Inv-loop μ-loop
+loop2-less c =
+    let l = c .before .before .before .before .before .before .before .before .before .before in
+    let s = seeing l in
+    omega (arith, l .loop2-test .taken, c .next-due2 .ensures, next-after (looking s .next .result .due) (l .before .loop2 .k + 1) (low-at s) (omega (arith, l .loop2-test .taken)))
+
+loop2-again : tie.Need-loop2-again Inv-loop2 μ-loop2 Inv-loop μ-loop
+loop2-again c =
+    let o = c .before .before .before .before .before .before in
+    let l = acting o in
+    let s = seeing l in (
+      rw (l .before .loop2 .inv .0),
+      acting-next _ _ _ _ _ _ _ (long-at s) (wide-at s) (low-at s) (quiet s) (l .before .loop2 .k) _ _ _ _ (l .loop2-test .taken) (l .before .loop2 .inv .1) _ _ _ _ _ _
+          (told o) (c .before .before .before .before .row-byte .ensures) (c .before .before .before .status .ensures) (c .before .before .is-at-rest .ensures) (c .before .both .ensures) (c .next-due2 .ensures),
+    )
+
+carries-requires : tie.Need-carries-requires Inv-loop2 μ-loop2 Inv-loop μ-loop
+carries-requires c κs = search needs
+
+one-requires : tie.Need-one-requires Inv-loop2 μ-loop2 Inv-loop μ-loop
 one-requires c κs = search needs
 
-pass-requires : tie.Need-pass-requires Inv-loop μ-loop
+pass-requires : tie.Need-pass-requires Inv-loop2 μ-loop2 Inv-loop μ-loop
 pass-requires c κs =
-    let r = c .before .before .before in
-    omega (arith, c .one .ensures, one-le (r .rested .result .sent), asks (found r) .3)
+    let l = c .before .before .before in
+    let s = l .before .before .before in
+    omega (arith, c .one .ensures, one-le (c .before .carries .result), crossing-room (begun (turn s)) (crossed-at (crossing (looking s))))
 
-ticked-requires : tie.Need-ticked-requires Inv-loop μ-loop
-ticked-requires c κs = asks (found (c .before .before .before .before)) .2
+clock-after-requires : tie.Need-clock-after-requires Inv-loop2 μ-loop2 Inv-loop μ-loop
+clock-after-requires c κs =
+    let s = c .before .before .before .before .before .before .before in
+    clock-asked (begun (turn s)) (crossed-at (crossing (looking s)))
 
-mul-put-still : tie.Need-mul-put-still Inv-loop μ-loop
-mul-put-still c = search (needs, fits (turn (found (c .before .before .before .before .before))))
+mul-put-row-2 : tie.Need-mul-put-row-2 Inv-loop2 μ-loop2 Inv-loop μ-loop
+mul-put-row-2 c = search (needs, fits (c .before .before .before .before .before .before .before .before .before .before .before .before .before .before .before .before .before .before .before .before .before .before .before))
 
-sub-put-still : tie.Need-sub-put-still Inv-loop μ-loop
-sub-put-still c = search (needs, fits (turn (found (c .before .before .before .before .before))))
+sub-put-row-2 : tie.Need-sub-put-row-2 Inv-loop2 μ-loop2 Inv-loop μ-loop
+sub-put-row-2 c = search (needs, fits (c .before .before .before .before .before .before .before .before .before .before .before .before .before .before .before .before .before .before .before .before .before .before .before))
 
-part-put-still-start : tie.Need-part-put-still-start Inv-loop μ-loop
-part-put-still-start c = search (needs, fits (turn (found (c .before .before .before .before .before))))
+part-put-row-start-2 : tie.Need-part-put-row-start-2 Inv-loop2 μ-loop2 Inv-loop μ-loop
+part-put-row-start-2 c = search (needs, fits (c .before .before .before .before .before .before .before .before .before .before .before .before .before .before .before .before .before .before .before .before .before .before .before))
 
-part-put-still-end : tie.Need-part-put-still-end Inv-loop μ-loop
-part-put-still-end c = search needs
+part-put-row-end-2 : tie.Need-part-put-row-end-2 Inv-loop2 μ-loop2 Inv-loop μ-loop
+part-put-row-end-2 c = search needs
 
-put-still-requires : tie.Need-put-still-requires Inv-loop μ-loop
-put-still-requires c κs =
-    let f = found (c .before .before .before .before .before .before) in
-    (rw (length-take, length-drop) (omega (arith, fits (turn f))), still f .low)
+crossing-row-requires : tie.Need-crossing-row-requires Inv-loop2 μ-loop2 Inv-loop μ-loop
+crossing-row-requires c κs =
+    let l = c .before .before .before .before .before .before in
+    let s = l .before .before .before in
+    shown-fits (begun (turn s)) (crossed-at (crossing (looking s))) _ (looking s .next .ensures) _ (s .scene .ensures) _ _ _ _ (acted-at l)
 
-add-i : tie.Need-add-i Inv-loop μ-loop
-add-i c = search (needs, fits (turn (found (c .before .before .before .before .before .before .before .before .before))))
+put-row-requires-2 : tie.Need-put-row-requires-2 Inv-loop2 μ-loop2 Inv-loop μ-loop
+put-row-requires-2 c κs = rw (length-take, length-drop) (omega (arith, fits (c .before .before .before .before .before .before .before .before .before .before .before .before .before .before .before .before .before .before .before .before .before .before .before .before .before)))
 
-loop-less : tie.Need-loop-less Inv-loop μ-loop
-loop-less c = search (needs, turn (found (c .before .before .before .before .before .before .before .before .before)) .loop-test .taken)
+add-i-2 : tie.Need-add-i-2 Inv-loop2 μ-loop2 Inv-loop μ-loop
+add-i-2 c = search (needs, fits (c .before .before .before .before .before .before .before .before .before .before .before .before .before .before .before .before .before .before .before .before .before .before .before .before .before .before .before .before))
 
-loop-again : tie.Need-loop-again Inv-loop μ-loop
-loop-again c =
-    let r = c .before .before .before .before .before .before .before .before .before in
-    let f = found r in
-    let t = turn f in
-    let l = t .before .loop in
-    let a = start t in
-    let pass = c .before .before .before .before .before in
-    let rows = again-rows (begun t) (a .args .rows .now) (l .rows) _ (a .pre .2) (l .inv .2) (still-part (still f) _ (lone r) _ _ (c .before .before .put-still .ensures)) in (
-      omega (arith, t .loop-test .taken),
-      again-board (begun t) _ (still-board (still f) _ (lone r) _ _ _ (pass .before .one .ensures) (pass .pass .ensures) (c .before .before .before .before .ticked .ensures)),
-      rows,
-      again-long (begun t) _ _ (a .pre .2) rows,
-      λ h. again-votes (begun t) (l .classes) (still f .votes),
-      λ h. still-calm (still f) _ (lone r) (l .i) _ refl,
-    )
+loop-less-2 : tie.Need-loop-less-2 Inv-loop2 μ-loop2 Inv-loop μ-loop
+loop-less-2 c = search (needs, (c .before .before .before .before .before .before .before .before .before .before .before .before .before .before .before .before .before .before .before .before .before .before .before .before .before .before .before .before) .loop-test .taken)
 
-classes-at-requires : tie.Need-classes-at-requires Inv-loop μ-loop
-classes-at-requires c κs =
-    let t = c .before .before .before in
-    (omega (arith, t .loop-test .taken, start t .pre .1), coded-at (begun t), t .before .loop .inv .4)
-
-add-step : tie.Need-add-step Inv-loop μ-loop
-add-step c = search needs
-
-sub-step : tie.Need-sub-step Inv-loop μ-loop
-sub-step c = search needs
-
-part-step-start : tie.Need-part-step-start Inv-loop μ-loop
-part-step-start c = search needs
-
-part-step-end : tie.Need-part-step-end Inv-loop μ-loop
-part-step-end c = search needs
-
-mul-step : tie.Need-mul-step Inv-loop μ-loop
-mul-step c = search needs
-
-sub-step-2 : tie.Need-sub-step-2 Inv-loop μ-loop
-sub-step-2 c = search needs
-
-part-step-start-2 : tie.Need-part-step-start-2 Inv-loop μ-loop
-part-step-start-2 c = search needs
-
-part-step-end-2 : tie.Need-part-step-end-2 Inv-loop μ-loop
-part-step-end-2 c = search needs
-
-step-requires : tie.Need-step-requires Inv-loop μ-loop
-step-requires c κs =
-    let t = c .before .before .before .before .before .before in
-    let p = step-asked (begun t) _ (c .before .before .classes-at .ensures) in
-    (p .0, p .1, p .2, p .3, p .4, p .5, rw (length-take, length-drop) (omega (arith, fits t)))
-
-add-i-2 : tie.Need-add-i-2 Inv-loop μ-loop
-add-i-2 c = search (needs, fits (begin (c .before .before)))
-
-is-followed-requires : tie.Need-is-followed-requires Inv-loop μ-loop
-is-followed-requires c κs =
-    let t = begin (c .before .before .before) in
-    (omega arith, start t .pre .1, omega (arith, t .loop-test .taken))
-
-is-calm-requires : tie.Need-is-calm-requires Inv-loop μ-loop
-is-calm-requires c κs = search needs
-
-still-row-requires : tie.Need-still-row-requires Inv-loop μ-loop
-still-row-requires c κs = search needs
-
-loop-less-2 : tie.Need-loop-less-2 Inv-loop μ-loop
-loop-less-2 c = search needs
-
-loop-again-2 : tie.Need-loop-again-2 Inv-loop μ-loop
+loop-again-2 : tie.Need-loop-again-2 Inv-loop2 μ-loop2 Inv-loop μ-loop
 loop-again-2 c =
-    let r = c .before .before .before .before .before .before in
-    let t = begin r in
-    let l = t .before .loop in
-    let a = start t in
-    let e = rw (lent (a .args .log .now) (l .i)) at (r .step .ensures) in
-    let rows = again-rows (begun t) (a .args .rows .now) (l .rows) _ (a .pre .2) (l .inv .2) (e .1) in (
-      omega (arith, t .loop-test .taken),
-      again-board (begun t) _ (e .0),
-      rows,
-      again-long (begun t) _ _ (a .pre .2) rows,
-      λ h. again-votes (begun t) _ (r .before .before .before .classes-at .ensures),
-      again-calm _ _ (l .i) _ (c .before .before .is-followed .result) _ (c .before .is-calm .ensures) (c .still-row .ensures),
-    )
+    let l = c .before .before .before .before .before .before .before .before .before .before in
+    let s = l .before .before .before in
+    let p = c .before .before .before .before .before .before in
+    crossing-stands (begun (turn s)) (crossed-at (crossing (looking s))) _ (looking s .next .ensures) _ (s .scene .ensures) _ _ _ _ (acted-at l) _ _ _ _ _ _ _
+    (c .before .before .before .before .before .before .before .before .carries .ensures) (c .before .before .before .before .before .before .before .one .ensures) (p .pass .ensures ∙ ap (λ (b : Board). passed (b .marks) (turn s .before .loop .clock .crossings) (p .before .one .result)) (l .before .loop2 .inv .0))
+    (c .before .before .before .before .before .clock-after .ensures) (ap (withMarks _) (l .before .loop2 .inv .0)) (c .before .before .before .crossing-row .ensures) (c .before .before .put-row2 .ensures)
 
-same-length : tie.Need-same-length Inv-loop μ-loop
+same-length : tie.Need-same-length Inv-loop2 μ-loop2 Inv-loop μ-loop
 same-length c = search needs
 
-returns : tie.Need-returns Inv-loop μ-loop
+returns : tie.Need-returns Inv-loop2 μ-loop2 Inv-loop μ-loop
 returns c =
-    let l = c .before .loop in
-    let s = c .before .before .before .before .before .before in
-    let e : l .i ≡ s .args .n = omega (arith, c .loop-test .left, l .inv .0) in
-    (rw (← e) (l .inv .1), rw (← e) (l .inv .2))
+    let l = c .before .before .loop in
+    let e : l .i ≡ c .before .before .before .before .before .before .before .before .before .before .args .n = omega (arith, c .before .loop-test .left, l .inv .most) in
+    (rw (← e) (l .inv .board), rw (← e) (l .inv .laidOut))
 
 pub run-spec : {M : Type 1} → statement M
 run-spec =
     tie.close
     (tie.spec
+    Inv-loop2
+    μ-loop2
     Inv-loop
     μ-loop
     of-requires
+    first-requires
     loop-holds
-    mul-at
-    is-still-requires
-    cast-h
+    mul-if1
+    shared-slice-read-if1
+    mul-c
+    add-c
+    shared-slice-read-c
+    cast-c
     mul-p
     element-copy-out-p
-    add-asked
-    shared-slice-read-asked
-    free-if-requires
-    lone-scene-requires
-    rested-requires
+    mul-command
+    add-command
+    shared-slice-read-command
+    command-requires
     mul-q
     element-set-from-q
-    one-requires
-    pass-requires
-    ticked-requires
-    mul-put-still
-    sub-put-still
-    part-put-still-start
-    part-put-still-end
-    put-still-requires
+    mul-put-row
+    sub-put-row
+    part-put-row-start
+    part-put-row-end
+    command-row-requires
+    put-row-requires
     add-i
     loop-less
     loop-again
-    classes-at-requires
-    add-step
-    sub-step
-    part-step-start
-    part-step-end
-    mul-step
-    sub-step-2
-    part-step-start-2
-    part-step-end-2
-    step-requires
+    next-requires
+    cast-holder
+    mul-holder
+    element-copy-out-holder
+    scene-requires
+    next-due-requires
+    loop2-holds
+    mul-p-2
+    element-copy-out-p-2
+    cast-crossed
+    array-read-crossed
+    asked-requires
+    crossed-requires
+    row-byte-requires
+    array-write-bytes
+    status-requires
+    array-write-shown
+    array-read-is-at-rest
+    is-at-rest-requires
+    both-requires
+    mul-q-2
+    element-set-from-q-2
+    add-next-due
+    next-due-requires-2
+    loop2-less
+    loop2-again
+    carries-requires
+    one-requires
+    pass-requires
+    clock-after-requires
+    mul-put-row-2
+    sub-put-row-2
+    part-put-row-start-2
+    part-put-row-end-2
+    crossing-row-requires
+    put-row-requires-2
     add-i-2
-    is-followed-requires
-    is-calm-requires
-    still-row-requires
     loop-less-2
     loop-again-2
     same-length

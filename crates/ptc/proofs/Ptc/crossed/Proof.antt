@@ -1,95 +1,25 @@
--- `ptc::Ptc::crossed` meets its contract: the move, then the cycle and the trigger by the state after it.
--- What each call ensures, put together.
+-- `ptc::Ptc::crossed` meets its contract: a controller at rest by the law of rest, any other by the whole crossing.
+-- The test of rest is the law's own premise.
+use mathlib.Core.Path.{sym, _∙_}
 use borrow.Author.Needs.{needs}
-use Rattle.ptc.proofs.Built.{crossed-is}
+use Rattle.ptc.proofs.Rest.{rest-crossed}
 use Rattle.ptc.proofs.Ptc.crossed.Statement.{statement}
 use Rattle.ptc.proofs.Ptc.crossed.Tie as tie
 
-advance-requires : tie.Need-advance-requires
-advance-requires c κs = search needs
+is-at-rest-requires : tie.Need-is-at-rest-requires
+is-at-rest-requires c κs = search needs
 
-kept-requires : tie.Need-kept-requires
-kept-requires c κs = search needs
-
-opened-requires : tie.Need-opened-requires
-opened-requires c κs = search needs
-
-asks-trigger-requires : tie.Need-asks-trigger-requires
-asks-trigger-requires c κs = search needs
-
-free-in-requires : tie.Need-free-in-requires
-free-in-requires c κs = search needs
-
-fate-requires : tie.Need-fate-requires
-fate-requires c κs = search needs
-
-is-sent-requires : tie.Need-is-sent-requires
-is-sent-requires c κs = search needs
-
-both-requires : tie.Need-both-requires
-both-requires c κs = search needs
-
-both-requires-2 : tie.Need-both-requires-2
-both-requires-2 c κs = search needs
-
-counted-requires : tie.Need-counted-requires
-counted-requires c κs = search needs
-
-ended-requires : tie.Need-ended-requires
-ended-requires c κs = search needs
-
-events-of-requires : tie.Need-events-of-requires
-events-of-requires c κs = c .before .before .before .before .before .before .before .before .before .before .before .before .before .pre .events
-
-orbit-code-requires : tie.Need-orbit-code-requires
-orbit-code-requires c κs = search needs
-
-cycle-code-requires : tie.Need-cycle-code-requires
-cycle-code-requires c κs = search needs
-
-code-of-requires : tie.Need-code-of-requires
-code-of-requires c κs = search needs
+rested-requires : tie.Need-rested-requires
+rested-requires c κs = search needs
 
 returns : tie.Need-returns
-returns c =
-    let events = c .before .before .before in
-    let counts = events .before .before in
-    let fate = counts .before .before .before .before in
-    let cycle = fate .before .before .before in
-    crossed-is _ _ _ _ _ _
-    (cycle .before .before .advance .ensures)
-    (cycle .before .kept .ensures)
-    (cycle .opened .ensures)
-    (fate .before .before .asks-trigger .ensures)
-    (fate .before .free-in .ensures)
-    (fate .fate .ensures)
-    (counts .before .before .before .is-sent .ensures)
-    (counts .before .before .both .ensures)
-    (counts .before .both2 .ensures)
-    (counts .counted .ensures)
-    (events .before .ended .ensures)
-    (events .events-of .ensures)
-    (c .before .before .orbit-code .ensures)
-    (c .before .cycle-code .ensures)
-    (c .code-of .ensures)
+returns c = c .rested .ensures ∙ sym (rest-crossed _ _ _ _ _ _ (sym (c .before .before .is-at-rest .ensures) ∙ c .before .if1 .taken))
+
+moved-requires : tie.Need-moved-requires
+moved-requires c κs = search needs
+
+returns-2 : tie.Need-returns-2
+returns-2 c = search needs
 
 pub crossed-spec : {M : Type 1} → statement M
-crossed-spec =
-    tie.close
-    (tie.spec
-    advance-requires
-    kept-requires
-    opened-requires
-    asks-trigger-requires
-    free-in-requires
-    fate-requires
-    is-sent-requires
-    both-requires
-    both-requires-2
-    counted-requires
-    ended-requires
-    events-of-requires
-    orbit-code-requires
-    cycle-code-requires
-    code-of-requires
-    returns)
+crossed-spec = tie.close (tie.spec is-at-rest-requires rested-requires returns moved-requires returns-2)

@@ -1,0 +1,97 @@
+-- What the code lets all eight see is what they would see of the whole throttle: it comes to the same crossing for each of them.
+-- Another than the holder, or a holder that does not ask, does not look at the rules; one that asks looks at them in the state after its move.
+use mathlib.Core.Path.{_≡_, refl, sym}
+use mathlib.Core.Logic.{inl, inr, ⊎-elim}
+use mathlib.Core.Bool.{Bool, true, false, not, _||_, false≢true}
+use mathlib.Core.List.{List}
+use Prim.Native.Nat.{ℕ, _%_, _<_}
+use native.Mathlib.Omega.{arith}
+use borrow.Author.Tests.{ne-eqb, eqb-true, not-false}
+use lib.Dec.{eqb}
+use lib.ListN.{getD}
+use Rattle.laws.specs.Base.{if}
+use Rattle.laws.proofs.Tests.{either, same-or-not}
+use Rattle.settings.specs.declared.names.Rules.{Rules}
+use Rattle.throttle.specs.Rules.{free}
+use Rattle.clock.specs.declared.Clock.{Clock}
+use Rattle.clock.specs.Clock.{numberOf}
+use Rattle.states.specs.Names.{WARN}
+use Rattle.states.specs.Moves.{movedOf}
+use Rattle.ptc.specs.declared.Ptc.{Ptc}
+use Rattle.ptc.specs.declared.Plan.{Plan}
+use Rattle.ptc.specs.declared.Scene.{Scene}
+use Rattle.ptc.specs.Crossing.{freeIn}
+use Rattle.ptc.specs.Fresh.{freshPtc}
+use Rattle.ptc.proofs.Rest.{unasked-scene, moved-scene}
+use Rattle.records.specs.Records.{askedIn}
+use Rattle.eight.specs.Eight.{actOf}
+use Rattle.still.specs.declared.Look.{Look}
+use Rattle.still.specs.support.Look.{sceneFor}
+
+-- either limit, by the state
+by-state : (f : Bool → Bool) (s : ℕ) → if (eqb s WARN) (f (eqb s WARN)) (f (eqb s WARN)) ≡ if (eqb s WARN) (f true) (f false)
+by-state f s = ⊎-elim (λ (e : eqb s WARN ≡ true). rw e) (λ (e : eqb s WARN ≡ false). rw e) (either (eqb s WARN))
+
+neither : (a b : Bool) → a || b ≡ false → (a ≡ false) × (b ≡ false)
+neither true b e = absurd (false≢true (sym e))
+neither false b e = (refl, e)
+
+module _ (plan : Plan) (rules : Rules) (blocks : Bool) (look : Look) (marks : List ℕ) (clock : Clock) (ps : List Ptc) where
+  abbrev holding : Ptc
+  holding = getD ps (look .turn .holder % 8) freshPtc
+
+  abbrev seen : Scene
+  seen = sceneFor plan rules blocks holding look marks clock
+
+  -- the whole throttle
+  abbrev pub wholeScene : Scene
+  wholeScene = record {
+    number = numberOf clock (look .marker);
+    holder = look .turn .holder;
+    norm = free rules blocks marks (clock .crossings) false;
+    low = free rules blocks marks (clock .crossings) true;
+  }
+
+  numbers : seen .number ≡ wholeScene .number
+  unfolding sceneFor
+  numbers = refl
+
+  holders : seen .holder ≡ wholeScene .holder
+  unfolding sceneFor
+  holders = refl
+
+  asks : Bool
+  asks = askedIn (look .requests) (look .turn .holder % 8) || not (eqb (holding .cycle) 0)
+
+  -- the holder's own
+  abbrev movesTo : ℕ → ℕ
+  movesTo k =
+      movedOf (plan .at) (plan .waits) k (numberOf clock (look .marker)) (getD (look .classes) k 0) (getD ps k freshPtc .state) (getD ps k freshPtc .wait) .state
+
+  own-free : (k : ℕ) → k ≡ look .turn .holder → k < 8 → asks ≡ true → freeIn seen (movesTo k) ≡ freeIn wholeScene (movesTo k)
+  unfolding sceneFor asks
+  own-free k e h a =
+      let z : k % 8 ≡ k = omega arith in
+      let asked = rw (← e, z) at a in
+      rw (← e, z, asked) (by-state (λ w. free rules blocks marks (clock .crossings) w) (movesTo k))
+
+  idle : (k : ℕ) → k ≡ look .turn .holder → k < 8 → asks ≡ false → (askedIn (look .requests) k ≡ false) × (getD ps k freshPtc .cycle ≡ 0)
+  unfolding asks
+  idle k e h a =
+      let z : k % 8 ≡ k = omega arith in
+      let n = neither _ _ (rw (← e, z) at a) in
+      (n .0, eqb-true _ _ (not-false _ (n .1)))
+
+  pub scene-seen : (k : ℕ) → k < 8
+      → actOf plan seen (look .classes) (look .requests) k (getD ps k freshPtc)
+      ≡ actOf plan wholeScene (look .classes) (look .requests) k (getD ps k freshPtc)
+  unfolding actOf sceneFor
+  scene-seen k h =
+      ⊎-elim
+      (λ (e : k ≡ look .turn .holder).
+      ⊎-elim
+      (λ (t : asks ≡ true). moved-scene plan seen wholeScene k (getD (look .classes) k 0) _ (getD ps k freshPtc) numbers holders (own-free k e h t))
+      (λ (f : asks ≡ false). unasked-scene plan seen wholeScene k _ _ _ numbers holders (inr (idle k e h f)))
+      (either asks))
+      (λ (n : k ≡ look .turn .holder → ⊥). unasked-scene plan seen wholeScene k _ _ _ numbers holders (inl (ne-eqb k _ n)))
+      (same-or-not k (look .turn .holder))

@@ -1,0 +1,76 @@
+-- `still::scene` meets its contract: a holder that asks is told by the rules, in the state after its move; any other is told nothing.
+-- The two ways are the two values of the definition's test.
+use mathlib.Core.Path.{_≡_, sym, _∙_}
+use mathlib.Core.Bool.{Bool, true, false, not, _||_}
+use mathlib.Core.List.{List}
+use Prim.Native.Nat.{ℕ, _%_}
+use borrow.Author.Needs.{needs}
+use lib.Dec.{eqb}
+use lib.ListN.{getD}
+use Rattle.settings.specs.declared.names.Rules.{Rules}
+use Rattle.throttle.specs.Rules.{free}
+use Rattle.clock.specs.declared.Clock.{Clock}
+use Rattle.clock.specs.Clock.{numberOf}
+use Rattle.states.specs.Moves.{movedOf}
+use Rattle.ptc.specs.declared.Ptc.{Ptc}
+use Rattle.ptc.specs.declared.Plan.{Plan}
+use Rattle.ptc.specs.declared.Scene.{Scene}
+use Rattle.records.specs.Records.{askedIn}
+use Rattle.still.specs.declared.Look.{Look}
+use Rattle.still.specs.support.Look.{sceneFor}
+use Rattle.still.proofs.scene.Statement.{statement}
+use Rattle.still.proofs.scene.Tie as tie
+
+module _ (plan : Plan) (rules : Rules) (blocks : Bool) (p : Ptc) (look : Look) (marks : List ℕ) (clock : Clock) (number : ℕ) where
+  abbrev asks : Bool
+  asks = askedIn (look .requests) (look .turn .holder % 8) || not (eqb (p .cycle) 0)
+
+  abbrev seeing : Bool → Scene
+  seeing now = record { number = number; holder = look .turn .holder; norm = now; low = now }
+
+  asked-is : (warn now : Bool) → number ≡ numberOf clock (look .marker) → asks ≡ true
+      → warn ≡ eqb (movedOf (plan .at) (plan .waits) (look .turn .holder) number (getD (look .classes) (look .turn .holder % 8) 0) (p .state) (p .wait) .state) 8
+      → now ≡ free rules blocks marks (clock .crossings) warn → seeing now ≡ sceneFor plan rules blocks p look marks clock
+  unfolding sceneFor
+  asked-is warn now n a w f = rw (f, w, n, a)
+
+  idle-is : number ≡ numberOf clock (look .marker) → asks ≡ false → seeing false ≡ sceneFor plan rules blocks p look marks clock
+  unfolding sceneFor
+  idle-is n a = rw (n, a)
+
+number-requires : tie.Need-number-requires
+number-requires c κs = search needs
+
+asks-requires : tie.Need-asks-requires
+asks-requires c κs = search needs
+
+cast-h : tie.Need-cast-h
+cast-h c = search needs
+
+element-copy-out-is-warned : tie.Need-element-copy-out-is-warned
+element-copy-out-is-warned c = search needs
+
+is-warned-requires : tie.Need-is-warned-requires
+is-warned-requires c κs = search needs
+
+free-requires : tie.Need-free-requires
+free-requires c κs = search needs
+
+returns : tie.Need-returns
+returns c = asked-is _ _ _ _ _ _ _ _ _ _ (c .before .before .before .before .before .number .ensures) (sym (c .before .before .before .before .asks .ensures) ∙ c .before .before .before .if1 .taken) (c .before .is-warned .ensures) (c .free .ensures)
+
+returns-2 : tie.Need-returns-2
+returns-2 c = idle-is _ _ _ _ _ _ _ _ (c .before .before .number .ensures) (sym (c .before .asks .ensures) ∙ c .if1 .left)
+
+pub scene-spec : {M : Type 1} → statement M
+scene-spec =
+    tie.close
+    (tie.spec
+    number-requires
+    asks-requires
+    cast-h
+    element-copy-out-is-warned
+    is-warned-requires
+    free-requires
+    returns
+    returns-2)
