@@ -1,46 +1,112 @@
-#!/usr/bin/env python3
-"""The bench's logs: logs.py DIR CROSSINGS BOARD_SET makes a folder below DIR for each."""
-import os
+"""The bench's logs, one table: LOGS. What each of them is for:
+
+    holder asks        the throttle at every crossing, and nothing else: one group, codes that stay
+    all ask            the same, with seven requests more to count as lost at every crossing
+    codes change       a merge at every crossing
+    quiet              nothing but the way through the log
+    a working day      a bit of everything, as a bench has it: two groups, markers, codes that now and then change, calibrations
+    eight ask          as `all ask`, but each of eight groups by chance, and with hand-overs
+    loose rules        as `all ask`, but the rules let one crossing in three have a trigger
+    codes flip         a merge at every crossing, after which several groups move and several ask
+    anything goes      any code, 2 % commands, 1 % markers: no shortcut lasts for more than a few crossings
+    orbit of 64        a number that some controller acts at every six crossings: shortcuts up to the next one are short
+    all wait           eight controllers that wait for the whole log, up to 2,700,000 crossings
+
+A log is START for each group, three quiet orbits, in which the controllers become ready, and then ten orbits of records, which
+are repeated, since chance is slow to make. So many are not learned by the processor that README.md names: with fifty orbits the
+figures were the same.
+"""
 import random
-import sys
+from dataclasses import dataclass
+from pathlib import Path
+from typing import Callable
 
+ORBIT = 3564  # of the standard settings
+WARMING, BODY = 3 * ORBIT, 10 * (ORBIT + 1)  # ten orbits, each with room for a command
+START, HARD, CALIBRATE = 1, 3, 5
 READY = bytes([0x88]) * 20
-WARMING = 7500  # from START to READY under the standard settings
+
+TWO = {"slot0": 2, "slot1": 1} | {f"part{n}": n % 2 for n in range(32)}
+EIGHT = {f"slot{k}": 1 for k in range(8)} | {f"part{n}": n % 8 for n in range(32)}
+LOOSE = {"r2_norm": 15, "r2_low": 15, "r3_norm": 63, "r3_low": 63, "r4_norm": 511, "r4_low": 511}
+SHORT = {"orbit": 64, "gap_low": 60, "gap_high": 63, "at_gap": 60, "at_bc0": 0, "at_resync": 6, "at_hard": 12, "at_ec0": 18}
+SHORT |= {"at_oc0": 24, "at_start": 30, "at_stop": 36, "at_wte": 42, "at_te": 48, "at_cal": 54}
+LONG_WAITS = {"settle_resync": 255, "settle_hard": 255, "recover_hard": 255}
 
 
-def records(count, requests, codes):
-    yield bytes([1, 0, 1] + [0] * 21)
-    for n in range(count):
-        if n < WARMING:
-            yield bytes([0, 0, 0, 8]) + READY
-        else:
-            yield bytes([0, 0, requests(n), 8]) + codes(n)
+def crossing(requests=0, codes=READY, marker=False, gtfe=8):
+    return bytes([0, marker, requests, gtfe]) + codes
 
 
-def changing(_):
-    """Most codes ready, some warning, others at every crossing."""
-    return bytes(0x88 if x < 0.9 else 0x81 for x in (random.random() for _ in range(20)))
+def command(k, number):
+    return bytes([1, k, number]) + bytes(21)
 
 
-def main():
-    top, count, settings = sys.argv[1], int(sys.argv[2]), sys.argv[3]
-    random.seed(1)
-    logs = [
-        ("steady codes, holder asks always", lambda n: 1, lambda n: READY),
-        ("steady codes, all eight ask always", lambda n: 255, lambda n: READY),
-        ("codes change at every crossing", lambda n: 1, changing),
-        ("quiet, a request in a thousand", lambda n: int(n % 1000 == 0), lambda n: READY),
-    ]
-    for k, (name, requests, codes) in enumerate(logs):
-        folder = os.path.join(top, f"log-{k}")
-        os.makedirs(folder)
-        with open(os.path.join(folder, "name.txt"), "w", encoding="utf-8") as out:
-            out.write(name)
-        with open(settings, "rb") as text, open(os.path.join(folder, "board.set"), "wb") as out:
-            out.write(text.read())
-        with open(os.path.join(folder, "run.rec"), "wb") as out:
-            out.writelines(records(count, requests, codes))
+def asked_by_chance(chance, _):
+    return crossing(chance.randrange(256))
 
 
-if __name__ == "__main__":
-    main()
+def changing(chance, _):
+    """Nine bytes of codes in ten are ready, the others have a warning."""
+    return crossing(1, bytes(chance.choices((0x88, 0x81), (9, 1), k=20)))
+
+
+def flipping(chance, _):
+    """Every controller goes between ready and warning."""
+    return crossing(chance.randrange(256), bytes(chance.choices((0x88, 0x18, 0x81), (3, 1, 1), k=20)))
+
+
+def anything(chance, _):
+    kind = chance.random()
+    if kind < 0.02:
+        return command(chance.randrange(8), chance.randrange(1, 7))
+    codes = chance.choices((0x88, 0x18, 0x48, 0x00, 0xCC, 0x2F, 0xB8, 0x84, 0x21), (12, 1, 1, 1, 1, 1, 1, 1, 1), k=20)
+    return crossing(chance.randrange(256), bytes(codes), marker=kind > 0.99, gtfe=chance.choice((8, 8, 8, 1, 4)))
+
+
+def working_day(chance, n):
+    """Each orbit has its marker, and CALIBRATE at its end; a group asks at one crossing in 20; 50 in 500 have a warning."""
+    number = n % (ORBIT + 1)
+    if number == ORBIT:
+        return command(chance.randrange(2), CALIBRATE)
+    asks = (chance.random() < 0.05) + 2 * (chance.random() < 0.05)
+    codes = b"\x81" + READY[1:] if n % 500 < 50 else READY
+    return crossing(asks, codes, marker=number == 0)
+
+
+@dataclass(frozen=True)
+class Log:
+    name: str
+    settings: dict  # those that are not standard
+    groups: int
+    record: Callable[[random.Random, int], bytes]  # by its place in the ten orbits
+    first: tuple = ()  # records after the quiet orbits
+
+
+LOGS = [
+    Log("holder asks", {}, 1, lambda chance, n: crossing(1)),
+    Log("all ask", {}, 1, lambda chance, n: crossing(255)),
+    Log("codes change", {}, 1, changing),
+    Log("quiet", {}, 1, lambda chance, n: crossing(n % 1000 == 0)),
+    Log("a working day", TWO, 2, working_day),
+    Log("eight ask", EIGHT, 8, asked_by_chance),
+    Log("loose rules", EIGHT | LOOSE, 8, lambda chance, n: crossing(255)),
+    Log("codes flip", EIGHT, 8, flipping),
+    Log("anything goes", EIGHT | LOOSE, 8, anything),
+    Log("orbit of 64", EIGHT | SHORT, 8, asked_by_chance),
+    Log("all wait", EIGHT | LONG_WAITS, 8, asked_by_chance, tuple(command(k, HARD) for k in range(8))),
+]
+
+
+def write(log, records, standard, folder):
+    """Writes the files of a log of so many records, over the standard settings' text, and hands back their folder."""
+    pairs = (line.split("=") for line in standard.splitlines())
+    text = "".join(f"{key}={log.settings.get(key, value)}\n" for key, value in pairs)
+    chance = random.Random(log.name)
+    head = [command(k, START) for k in range(log.groups)] + [crossing()] * WARMING + list(log.first)
+    body = [log.record(chance, n) for n in range(BODY)]
+    times = -(-records // BODY)
+    folder.mkdir(parents=True)
+    (folder / "board.set").write_text(text)
+    (folder / "run.rec").write_bytes(b"".join((head + body * times)[:records]))
+    return folder

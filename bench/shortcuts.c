@@ -1,0 +1,252 @@
+/* The desk in C with the shortcuts that a fast desk takes, so that the proved one is measured against its own way of working
+ * and not only against a plain one. A crossing is one of three kinds, from common to rare:
+ *   still   the codes of the crossing before, no marker, no date, nobody about to move: a stretch of them goes in one loop;
+ *   plain   no marker, no date: only controllers whose members changed, that ask, or that were about to move are looked at;
+ *   dated   everything else: all eight in full, as in plain.c.
+ * A date is a number at which some controller may act: 0, and every `at_` of the settings. */
+#include "desk.h"
+
+enum { RULES = 4, LONGEST = 255 };
+static const uint64_t LANES = 0x0101010101010101ull;
+
+/* Made once, from the settings. */
+static uint64_t lane[40][16], lanes_of_gtfe[16]; /* the bits that a code sets, see merge() */
+static uint64_t spread[256];                     /* request bit k in byte k, so that the requests of many crossings add up */
+static uint64_t dates[64];                       /* a bit for each number */
+static uint8_t drifts[20][8];                    /* by state and class */
+static uint32_t periods[RULES];
+
+/* What goes on from crossing to crossing. The codes' first word begins as no record's does. */
+static uint64_t codes[3] = {~0ull}, lanes;
+static uint64_t awake;           /* a bit in the lane of each controller that its class would move */
+static int leaving = 1;          /* whether one may be in a state that it leaves at once, whatever the number */
+static uint32_t fills[RULES];    /* the triggers in each rule's period, which ends with the crossing before */
+static uint32_t held[RULES];     /* those that are still in it in this crossing */
+static uint64_t tally[8][FATES]; /* requests not yet in the counts, which are read or cleared after a command, or at the end */
+static uint8_t still[ROW];       /* the row of a crossing that sends nothing: the states as they are shown */
+
+/* Where a state leads by the class alone: to itself where it goes by a number or by its wait. */
+static uint8_t drift(uint8_t s, uint8_t c) {
+    return 6 <= s && s <= 8 ? running(c) : s == 9 && c < BAD ? 6 : s;
+}
+
+static void make_tables(void) {
+    for (int n = 0; n < 40; n++)
+        for (int code = 0; code < 16; code++) {
+            uint8_t r = rank[24 <= n && n < 32][code];
+            lane[n][code] = owner[n] < 8 && r ? 1ull << (8 * owner[n] + r) : 0;
+        }
+    for (int code = 0; code < 16; code++) lanes_of_gtfe[code] = rank[0][code] ? LANES << rank[0][code] : 0;
+    for (int r = 0; r < 256; r++)
+        for (int k = 0; k < 8; k++) spread[r] |= (uint64_t)(r >> k & 1) << 8 * k;
+    dates[0] = 1;
+    for (int at = AT_BC0; at <= AT_CAL; at++) dates[set[at] / 64] |= 1ull << set[at] % 64;
+    for (int s = 0; s < 20; s++)
+        for (int c = 0; c < 8; c++) drifts[s][c] = drift(s, c);
+    periods[0] = set[R1_GAP] + 1;
+    for (int r = 1; r < RULES; r++) periods[r] = set[R2 + 3 * (r - 1)];
+}
+
+static uint64_t word(const uint8_t *at) {
+    uint64_t w;
+    memcpy(&w, at, 8);
+    return w;
+}
+
+/* Whether a record has the codes merged last: three compares of words. */
+static int repeats(const uint8_t *rec) {
+    return !((word(rec) ^ codes[0]) >> 24) && word(rec + 8) == codes[1] && word(rec + 16) == codes[2];
+}
+
+/* Lane k, byte k of a word, has bit r where a member of controller k has class r: no member waits for another. The lanes that
+ * change are handed back. */
+static uint64_t merge(const uint8_t *rec) {
+    const uint8_t *inputs = rec + 4;
+    uint64_t before = lanes, now = lanes_of_gtfe[rec[3]];
+    for (int j = 0; j < 20; j++) now |= lane[2 * j][inputs[j] % 16] | lane[2 * j + 1][inputs[j] / 16];
+    for (int j = 0; j < 3; j++) codes[j] = word(rec + 8 * j);
+    lanes = now;
+    return now ^ before;
+}
+
+/* The greatest class in a lane; bit 0 stands for none. */
+static uint8_t class_in(int k) { return 63 - __builtin_clzll((lanes >> 8 * k & 255) | 1); }
+
+/* The first lane of a word that is not 0. */
+static int first_lane(uint64_t w) { return __builtin_ctzll(w) / 8; }
+
+static uint64_t without(uint64_t w, int k) { return w & ~(255ull << 8 * k); }
+
+/* What a rule's period still holds is its fill less one mark: no period is counted again. */
+static void drop_oldest(uint64_t n) {
+    for (int r = 0; r < RULES; r++) {
+        uint64_t oldest = n + 2048 - periods[r];
+        held[r] = fills[r] - (marks[oldest / 64 % 32] >> oldest % 64 & 1);
+    }
+}
+
+static void mark(uint64_t n, int carried) {
+    uint64_t next = n + 1;
+    marks[n / 64 % 32] |= (uint64_t)carried << n % 64;
+    marks[next / 64 % 32] &= ~(1ull << next % 64);
+    for (int r = 0; r < RULES; r++) fills[r] = held[r] + carried;
+}
+
+static int is_free(int warn) {
+    if ((warn && set[WARN_BLOCKS]) || held[0]) return 0;
+    for (int r = 1; r < RULES; r++)
+        if (held[r] >= set[R2 + 3 * (r - 1) + 1 + warn]) return 0;
+    return 1;
+}
+
+/* The tally into the counts. */
+static void settle(void) {
+    for (int k = 0; k < 8; k++) {
+        Ptc *p = &ptcs[k];
+        for (int f = 0; f < FATES; f++) p->requested += tally[k][f];
+        for (int f = 0; f < SENT; f++) p->lost[f] += tally[k][f];
+        p->accepted += tally[k][SENT];
+        p->events += tally[k][SENT];
+    }
+    memset(tally, 0, sizeof tally);
+}
+
+static int is_date(uint32_t number) { return dates[number / 64] >> number % 64 & 1; }
+
+/* How many crossings from this number on have neither a date nor an end of the gap among them. */
+static uint32_t until_date(uint32_t number) {
+    uint32_t at = number / 64, end = set[ORBIT];
+    uint64_t w = dates[at] >> number % 64 << number % 64;
+    while (!w && 64 * ++at < end) w = dates[at];
+    if (w) end = 64 * at + __builtin_ctzll(w);
+    if (number < set[GAP_LOW] && set[GAP_LOW] < end) end = set[GAP_LOW];
+    if (in_gap(number) && set[GAP_HIGH] + 1 < end) end = set[GAP_HIGH] + 1;
+    return end - number;
+}
+
+/* Whether the throttle decides on the holder's requests here: all others have a cause without it. */
+static int rules_decide(int closed) { return holder < 8 && cause(&ptcs[holder], 1, closed) == LOST_THROTTLE; }
+
+/* Still crossings: how many there are, up to the next date. A controller's requests all have one cause, or the throttle decides
+ * on them; so the former are owed, a byte for each controller, and go to the tally at the end. A byte lasts for LONGEST. */
+static int stretch(const uint8_t *log, int records, uint8_t *rows) {
+    int most = until_date(next_number), m;
+    int closed = in_gap(next_number), ruled = rules_decide(closed), warn = ruled && ptcs[holder].state == 8;
+    uint64_t open = ruled ? 1ull << 8 * holder : 0, owed = 0, sent = 0, refused = 0;
+    if (most > records) most = records;
+    if (most > LONGEST) most = LONGEST;
+    for (m = 0; m < most; m++) {
+        const uint8_t *rec = log + RECORD * m;
+        uint8_t *row = rows + ROW * m;
+        uint64_t asks = spread[rec[2]];
+        int carried = 0;
+        if (word(rec) & 0xFFFF || !repeats(rec)) break;
+        drop_oldest(crossings + m);
+        if (asks & open) {
+            carried = is_free(warn);
+            sent += carried;
+            refused += !carried;
+        }
+        owed += asks & ~open;
+        mark(crossings + m, carried);
+        memcpy(row, still, ROW);
+        if (carried) row[holder] = 16;
+    }
+    for (; owed; owed = without(owed, first_lane(owed))) {
+        uint32_t k = first_lane(owed);
+        tally[k][cause(&ptcs[k], k == holder, closed)] += owed >> 8 * k & 255;
+    }
+    if (ruled) {
+        tally[holder][SENT] += sent;
+        tally[holder][LOST_THROTTLE] += refused;
+    }
+    advance(next_number, m);
+    return m;
+}
+
+/* A controller's state, into the row of a crossing that sends nothing. */
+static void show(int k) {
+    uint8_t *pair = &still[8 + k / 2], status = shows[ptcs[k].state];
+    *pair = k % 2 ? *pair % 16 + 16 * status : *pair / 16 * 16 + status;
+}
+
+/* One controller of a plain crossing: it moves by its class alone. The holder's request is left to the crossing. */
+static void drift_one(uint32_t k, uint64_t asks) {
+    Ptc *p = &ptcs[k];
+    uint8_t class = class_in(k);
+    p->state = drifts[p->state][class];
+    if (!runs(p)) p->cycle = NO_CYCLE;
+    show(k);
+    awake |= (uint64_t)(drifts[p->state][class] != p->state) << 8 * k;
+    if (k != holder) tally[k][runs(p) ? LOST_SLOT : LOST_STATE] += asks >> 8 * k & 255;
+}
+
+static void plain_crossing(const uint8_t *rec, uint64_t changed, uint8_t *row) {
+    uint64_t asks = spread[rec[2]], due = changed | asks | awake;
+    int carried = 0;
+    awake = 0;
+    for (; due; due = without(due, first_lane(due))) drift_one(first_lane(due), asks);
+    memcpy(row, still, ROW);
+    drop_oldest(crossings);
+    if (holder < 8 && rec[2] >> holder & 1) {
+        Ptc *p = &ptcs[holder];
+        int fate = cause(p, 1, in_gap(next_number));
+        carried = fate == LOST_THROTTLE && is_free(p->state == 8);
+        tally[holder][carried ? SENT : fate]++;
+        row[holder] = 16 * carried;
+    }
+    mark(crossings, carried);
+    advance(next_number, 1);
+}
+
+static int leaves_at_once(const Ptc *p) {
+    uint8_t s = p->state;
+    return !p->wait && (s == 2 || s == 12 || s == 14 || s == 15 || s == 17);
+}
+
+static void dated_crossing(const uint8_t *rec, uint8_t *row) {
+    uint32_t number = arrive(rec[1]);
+    uint8_t classes[8];
+    for (int k = 0; k < 8; k++) classes[k] = class_in(k);
+    drop_oldest(crossings);
+    mark(crossings, cross(number, rec[2], classes, row));
+    advance(number, 1);
+    awake = leaving = 0;
+    for (int k = 0; k < 8; k++) {
+        show(k);
+        leaving |= leaves_at_once(&ptcs[k]);
+        awake |= (uint64_t)(drifts[ptcs[k].state][classes[k]] != ptcs[k].state) << 8 * k;
+    }
+}
+
+/* One crossing, or a stretch of them: how many. */
+static int crossing(const uint8_t *log, int records, uint8_t *rows) {
+    int same = repeats(log);
+    uint64_t changed = same ? 0 : merge(log);
+    if (log[1] || leaving || is_date(next_number)) dated_crossing(log, rows);
+    else if (awake || !same) plain_crossing(log, changed, rows);
+    else return stretch(log, records, rows);
+    return 1;
+}
+
+static void run(const uint8_t *log, int records, uint8_t *rows) {
+    for (int i = 0; i < records;) {
+        const uint8_t *rec = log + RECORD * i;
+        uint8_t *row = rows + ROW * i;
+        if (!rec[0]) i += crossing(rec, records - i, row);
+        else {
+            settle();
+            command(rec, row);
+            leaving = 1;
+            i++;
+        }
+    }
+    settle();
+}
+
+int main(void) {
+    if (!open_board()) return 1;
+    make_tables();
+    replay(run);
+    return 0;
+}
