@@ -5,3 +5,4 @@ pub mod Keeps
 pub mod Calm
 pub mod Turn
 pub mod Answers
+pub mod OneCall
