@@ -2,6 +2,7 @@
 -- They are the parts of the one conjunction, read and put together.
 use mathlib.Core.Path.{_≡_}
 use mathlib.Core.Bool.{true, _&&_}
+use Prim.Native.Nat.{_≤_}
 use Rattle.laws.proofs.Bools.{both}
 use Rattle.answer.specs.Told.{DONE, succeeded}
 use Rattle.settings.specs.Names.{orbitOf}
@@ -15,6 +16,7 @@ use Rattle.board.specs.declared.Board.{Board}
 use Rattle.kit.specs.Kit.{slotsOf}
 use Rattle.eight.specs.Eight.{soundEight}
 use Rattle.board.specs.Sound.{soundBoard}
+use Rattle.soundness.proofs.Life.{within-life}
 
 pub record Parts (b : Board) : Type 0 where
   pub checks : checked (b .settings) ≡ DONE
@@ -42,3 +44,5 @@ unfolding soundBoard
 parts-sound b p = rw (checks-done (b .settings) (p .checks), p .clock, p .turn, p .eight, p .marks)
 
 -- a sound clock has not passed the end of the board's life
+pub sound-life : (b : Board) → soundBoard b ≡ true → b .clock .crossings ≤ LIFETIME
+sound-life b e = within-life _ (b .clock) (sound-parts b e .clock)

@@ -1,4 +1,5 @@
 // The board: settings, clock, slot, eight controllers and marks, through one crossing, one command and one block of records.
+mod blocks;
 mod sound;
 
 use answer::Answer;

@@ -4,26 +4,27 @@ use mathlib.Core.Path.{_≡_, refl, ap, sym, _∙_}
 use mathlib.Core.Bool.{true, false, false≢true}
 use mathlib.Core.List.{List, _++_, append-assoc}
 use Prim.Native.Nat.{ℕ, zero, suc, _+_, _*_, _-_, _%_, _≤_, _<_}
-use native.Mathlib.Nat.{not-suc-le-zero}
 use native.Mathlib.Omega.{arith}
-use lib.ListN.{length, take, drop, length-append, length-drop, take-append-drop}
+use lib.ListN.{length, take, drop, length-append, length-take, length-drop, take-append-drop}
 use lib.Seq.{length-take-le, take-all, drop-drop, take-add}
 use Rattle.laws.proofs.Bools.{if-has}
 use Rattle.answer.specs.Told.{succeeded, DONE}
 use Rattle.records.specs.Refusal.{recordsIn, Ready}
-use Rattle.records.proofs.Laws.{all-formed, crossings-le}
+use Rattle.records.specs.support.Blocks.{TestedOut, testedOf}
+use Rattle.records.proofs.Laws.{rec-start, crossings-start, all-formed, ready, refusal-settles}
+use Rattle.records.proofs.Testing.{tested-clear}
 use Rattle.board.specs.declared.Board.{Board}
 use Rattle.board.specs.Run.{ran, rowsOf}
 use Rattle.board.specs.Sound.{soundBoard}
 use Rattle.board.specs.Block.{RanOut, answerOf, blockOf}
 use Rattle.board.proofs.Answers.{block-ready, block-answer, block-done}
 use Rattle.board.proofs.Keeps.{Fit, ran-fit}
-use Rattle.board.proofs.Settled.{sound-parts}
-use Rattle.soundness.proofs.Life.{within-life}
+use Rattle.board.proofs.Settled.{sound-life}
 use Rattle.replay.specs.Replay.{blocksIn, blockAt, laidOn, inBlocks}
 use Rattle.replay.proofs.Laws.{stays}
-use Rattle.cut.proofs.Accepted.{fit-of, accepts, accepted, rows-taken, rows-past}
-use Rattle.cut.proofs.Parts.{records-add, ran-parts, rows-parts, first-ready, rest-ready, both-ready}
+use Rattle.replay.proofs.TestedFirst.{in-turn}
+use Rattle.cut.proofs.Accepted.{fit-of, accepts, rows-taken, rows-past}
+use Rattle.cut.proofs.Parts.{records-add, ran-parts, rows-parts, first-ready, rest-ready}
 use Rattle.cut.specs.Blocks.{Whole}
 use Rattle.cut.specs.Program.{firstBlocks, nextBlock, Program}
 
@@ -100,41 +101,34 @@ module _ (b : Board) (rows : List ℕ) (fit : Fit b) where
         let before = first-ready b x y between end (length rows) split (length rows) room in
         rw (up-to-next n) (one-more n long (as-one n (omega arith) before) end split)
 
-    -- the next block's acceptance makes the longer part ready
-    went-on : (n : ℕ) → n < blocksIn log → Ready (b .clock .crossings) (upTo n) (length rows)
-        → succeeded (nextOut (upTo n) (blockAt log n) .answer) ≡ true → Ready (b .clock .crossings) (upTo (suc n)) (length rows)
-    went-on n h before d =
-        let x = upTo n in
-        let y = blockAt log n in
-        let left = drop (12 * recordsIn x) (runRows x) in
-        let after = ran (recordsIn x) b x in
-        let done = accepted after y (length left) (ap succeeded (sym (block-answer after y left)) ∙ d) in
-        let next = block-ready after y (length left) done .1 in
-        let room : length left ≡ length rows - 12 * recordsIn x = rw (rows-left x) (length-drop (12 * recordsIn x) rows) in
-        let between : length x % 24 ≡ 0 = omega (arith, before .whole) in
-        let end : length y % 24 ≡ 0 = omega (arith, next .whole) in
-        let space : 12 * recordsIn x + 12 * recordsIn y ≤ length rows = omega (arith, before .space, next .space, room) in
-        rw (up-to-next n) (both-ready b x y between end (length rows) (length left) (length rows) before next space)
+    -- blocks that went through have all their records in order: the tests looked at each
+    abbrev tested : ℕ → TestedOut
+    tested n = testedOf n (b .clock .crossings) log (length rows)
 
-    -- so the first n blocks are ready wherever they went through
+    tested-all : (n : ℕ) → n ≤ blocksIn log → succeeded (tested n .answer) ≡ true → 24 * tested n .records ≡ length (upTo n)
+    unfolding testedOf
+    tested-all zero h d = refl
+    tested-all (suc n) h d =
+        let long : length (upTo (suc n)) ≡ 1536 * n + length (blockAt log n) = rw (up-to-next n, length-append) (ap (λ (k : ℕ). k + length (blockAt log n)) (up-to-long n h)) in
+        if-has (λ (o : TestedOut). succeeded (o .answer) ≡ true → 24 * o .records ≡ length (upTo (suc n))) (succeeded (tested n .answer)) _ _
+        (λ e f. rw f (omega (arith, long, ready _ _ _ (refusal-settles _ _ _ f) .whole)))
+        (λ e f. absurd (false≢true (sym e ∙ f)))
+        d
+
     went-through : (n : ℕ) → n ≤ blocksIn log → succeeded (inBlocks n b log rows .answer) ≡ true → Ready (b .clock .crossings) (upTo n) (length rows)
-    unfolding inBlocks
-    went-through zero h d =
-        let life = within-life _ (b .clock) (sound-parts b (fit .sound) .clock) in
+    went-through n h d =
+        let m = tested n .records in
+        let ok = sym (ap (λ (o : RanOut). succeeded (o .answer)) (in-turn b log rows fit n h)) ∙ d in
+        let all = tested-all n h ok in
+        let c = tested-clear (b .clock .crossings) log (length rows) (sound-life b (fit .sound)) n h in
+        let same : recordsIn (upTo n) ≡ m = omega (arith, all) in
+        let short : 24 * m ≤ 1536 * n = omega (arith, all, length-take (1536 * n) log) in
         record {
-          whole = refl;
-          space = omega arith;
-          formed = all-formed 0 (upTo 0) (λ i l. absurd (not-suc-le-zero l));
-          life = omega (arith, life, crossings-le 0 (upTo 0));
+          whole = omega (arith, all);
+          space = omega (arith, all, c .space);
+          formed = all-formed (recordsIn (upTo n)) (upTo n) (λ i l. rw (rec-start log (1536 * n) i (omega (arith, same))) (c .formed i (omega (arith, same))));
+          life = rw (same, crossings-start log (1536 * n) m short) (c .life);
         }
-    went-through (suc n) h d =
-        let o = inBlocks n b log rows in
-        let y = blockAt log n in
-        let both = if-has (λ (p : RanOut). succeeded (p .answer) ≡ true → (succeeded (o .answer) ≡ true) × (succeeded (blockOf (o .board) y (drop (768 * n) (o .rows)) .answer) ≡ true))
-        (succeeded (o .answer)) _ _ (λ e f. (e, f)) (λ e f. absurd (false≢true (sym e ∙ f))) d in
-        let before = went-through n (omega arith) (both .0) in
-        let at : 768 * n ≡ 12 * recordsIn (upTo n) = omega (arith, up-to-long n h) in
-        went-on n h before (rw (as-one n (omega arith) before, at) at both .1)
 
 -- ---- a refused block
 

@@ -11,6 +11,8 @@ use Rattle.settings.specs.declared.Settings.{Settings}
 use Rattle.settings.specs.declared.Read.{Read}
 use Rattle.settings.specs.Read.{ReadOut, readOut}
 use Rattle.settings.specs.Write.{WriteOut, writeOut}
+use Rattle.records.specs.declared.blocks.Tested.{Tested}
+use Rattle.records.specs.support.Blocks.{TestedOut, testedOut}
 use Rattle.board.specs.declared.Board.{Board}
 use Rattle.board.specs.declared.Made.{Made}
 use Rattle.board.specs.declared.Ran.{Ran}
@@ -46,6 +48,11 @@ one-reading : (d : ReadOut) → One (λ (r : Read). readOut r ≡ d)
 one-reading d a b p q =
     beside (λ (z : Answer) (s : Settings). record { answer = z; settings = s }) (a .answer) (b .answer) (a .settings) (b .settings)
     (ap (λ (o : ReadOut). (o .answer, o .settings)) (p ∙ sym q))
+
+one-tested : (d : TestedOut) → One (λ (r : Tested). testedOut r ≡ d)
+one-tested d a b p q =
+    beside (λ (z : Answer) (n : ℕ). record { answer = z; records = n }) (a .answer) (b .answer) (a .records) (b .records)
+    (ap (λ (o : TestedOut). (o .answer, o .records)) (p ∙ sym q))
 
 one-made : (d : MadeOut) → One (λ (r : Made). madeOut r ≡ d)
 one-made d a b p q =
@@ -84,6 +91,8 @@ one-outcome =
       number = λ a. known _;
       is-done = λ a. known _;
       refusal = λ κs done log room. told-known _;
+      test-blocks = λ κs first log room. one-tested _;
+      blocks = λ κs board log rows. one-ran _;
       read-line = λ κs text at head range. line-known _ at _ range;
       read-key = λ κs text at n range. line-known _ at _ range;
       put-bytes = λ κs buffer at s. laid _ _;

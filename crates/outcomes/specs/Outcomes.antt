@@ -27,9 +27,11 @@ use Rattle.settings.proofs.Settings.standard.Reads as standard-contract
 use Rattle.settings.proofs.Settings.text_length.Reads as settings-length-contract
 use Rattle.throttle.proofs.pass.Reads as pass-contract
 use Rattle.records.proofs.refusal.Reads as refusal-contract
+use Rattle.records.proofs.test_blocks.Reads as test-blocks-contract
 use Rattle.records.proofs.put_row.Reads as put-row-contract
 use Rattle.board.proofs.Board.fresh.Reads as fresh-contract
 use Rattle.board.proofs.Board.block.Reads as block-contract
+use Rattle.board.proofs.Board.blocks.Reads as blocks-contract
 use Rattle.board.proofs.Board.is_sound.Reads as is-sound-contract
 use Rattle.report.proofs.write.Reads as report-contract
 use Rattle.report.proofs.text_length.Reads as report-length-contract
@@ -72,6 +74,8 @@ pub record OneOutcome : Type 0 where
   pub is-done : (a : Answer) → OneValue (is-done-contract.Post tt) (a, tt)
   -- every other public function of the library whose `ensures` is no plain equation of the result
   pub refusal : (κs : Lfts 1) (done : ℕ) (log : Lent) (room : ℕ) → OneValue (refusal-contract.Post κs) (done, (log, (room, tt)))
+  pub test-blocks : (κs : Lfts 1) (first : ℕ) (log : Lent) (room : ℕ) → OneValue (test-blocks-contract.Post κs) (first, (log, (room, tt)))
+  pub blocks : (κs : Lfts 2) (board : Board) (log rows : Lent) → OneFilling (blocks-contract.Post κs) (λ out. (board, (log, (out, tt)))) rows
   pub read-line : (κs : Lfts 2) (text : Lent) (at : ℕ) (head : Lent) (range : Range) → OneValue (read-line-contract.Post κs) (text, (at, (head, (range, tt))))
   pub read-key : (κs : Lfts 1) (text : Lent) (at n : ℕ) (range : Range) → OneValue (read-key-contract.Post κs) (text, (at, (n, (range, tt))))
   pub put-bytes : (κs : Lfts 2) (buffer : Lent) (at : ℕ) (s : Lent) → OneFilling (put-bytes-contract.Post κs) (λ out. (out, (at, (s, tt)))) buffer

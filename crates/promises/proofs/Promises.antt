@@ -5,6 +5,7 @@ use Rattle.naming.proofs.Named.{named-by-key}
 use Rattle.status.proofs.Laws.{one-pass}
 use Rattle.throttle.proofs.Ring.{marking}
 use Rattle.eight.proofs.Orbits.{orbits-cleared}
+use Rattle.replay.proofs.TestedFirst.{tested-first}
 use Rattle.outcomes.proofs.Outcomes.{one-outcome}
 use Rattle.figures.proofs.Figures.{figures}
 use Rattle.cut.proofs.Program.{program}
@@ -19,7 +20,7 @@ pub promises : Promises
 promises =
     record {
       refusals = refusals;
-      tied = record { names = named-by-key; merge = one-pass; marks = marking; orbits = orbits-cleared };
+      tied = record { names = named-by-key; merge = one-pass; marks = marking; orbits = orbits-cleared; blocks = tested-first };
       one-outcome = one-outcome;
       round-trips = record { accepted-writes-back = accepted-writes-back; written-reads-back = written-reads-back };
       figures = figures;

@@ -11,6 +11,7 @@ use Rattle.naming.specs.Named.{NamedByKey}
 use Rattle.status.specs.OnePass.{OnePass}
 use Rattle.throttle.specs.Ring.{Marking}
 use Rattle.eight.specs.Orbits.{OrbitsCleared}
+use Rattle.replay.specs.TestedFirst.{TestedFirst}
 use Rattle.outcomes.specs.Outcomes.{OneOutcome}
 use Rattle.figures.specs.Figures.{Figures}
 use Rattle.cut.specs.Program.{Program}
@@ -27,13 +28,14 @@ pub record RoundTrips : Type 0 where
   pub written-reads-back : (s : Settings) (buffer : List ℕ) → length (s .values) ≡ 71 → written s buffer .answer ≡ DONE
       → readText (take (length (textOf s)) (written s buffer .buffer)) ≡ record { answer = DONE; settings = s }
 
--- what the code goes by, and what document 01 says: each name its key, one pass the eight merges, the ring's words the marks, and a
--- byte of the row the move that sets the orbit count to 0
+-- what the code goes by, and what document 01 says: each name its key, one pass the eight merges, the ring's words the marks, a byte
+-- of the row the move that sets the orbit count to 0, and blocks that are tested first the blocks in turn
 pub record Tied : Type 0 where
   pub names : NamedByKey
   pub merge : OnePass
   pub marks : Marking
   pub orbits : OrbitsCleared
+  pub blocks : TestedFirst
 
 pub record Promises : Type 0 where
   -- demand 1

@@ -2,23 +2,23 @@
 -- Each opens one definition; what speaks of n records is by induction on n.
 use mathlib.Core.Path.{_≡_, refl, ap, ap₂, sym, _∙_}
 use mathlib.Core.Logic.{_⊎_, ⊎-elim}
-use mathlib.Core.Bool.{Bool, true, false, not, _&&_, _||_}
+use mathlib.Core.Bool.{Bool, true, false, not, _&&_, _||_, false≢true}
 use mathlib.Core.List.{List, [], _∷_}
 use Prim.Native.Nat.{ℕ, zero, suc, _+_, _-_, _*_, _%_, _≤_, _<_}
-use native.Mathlib.Nat.{add-zero, zero-add, not-suc-le-zero}
+use native.Mathlib.Nat.{add-zero, add-suc, zero-add, not-suc-le-zero}
 use native.Mathlib.Numerals.{add-one}
 use native.Mathlib.Omega.{arith}
 use borrow.Author.Tests.{lt-ltb, le-ltb, leb-true, eqb-true, eqb-false}
 use lib.Dec.{leb, eqb, ltb}
 use lib.ListN.{length, getD, take, drop, length-take, length-drop, List·getD-eq-default}
-use lib.Seq.{ext-getD, getD-take, getD-drop, drop-drop}
-use Rattle.laws.specs.Base.{one, allB, tabulate}
+use lib.Seq.{ext-getD, getD-take, getD-drop, take-take, drop-drop}
+use Rattle.laws.specs.Base.{if, one, allB, tabulate}
 use Rattle.laws.proofs.Bools.{both, or-true, if-yes, one-le}
 use Rattle.laws.proofs.Tests.{lt-or-ge}
 use Rattle.laws.proofs.All.{all-get}
 use Rattle.laws.proofs.First.{first-all, first-none}
 use Rattle.laws.proofs.Over.{length-tabulate, getD-tabulate}
-use Rattle.answer.specs.Told.{DONE, LENGTH, ROOM, RECORD, LIFE}
+use Rattle.answer.specs.Told.{Told, succeeded, DONE, LENGTH, ROOM, RECORD, LIFE}
 use Rattle.answer.proofs.Told.{not-done}
 use Rattle.records.specs.Records.{recAt, isCrossing, codesIn, sameCodes, wellCrossing, wellCommand, well, firstIll, crossingsIn}
 use Rattle.records.specs.Rows.{rowByte, packed, crossingRow, commandRow}
@@ -30,6 +30,16 @@ rec-long log i n e h = rw (length-take, length-drop) (omega arith)
 
 pub rec-cut : (log : List ℕ) (m n : ℕ) → recAt log (m + n) ≡ recAt (drop (24 * m) log) n
 rec-cut log m n = let e : 24 * (m + n) ≡ 24 * m + 24 * n = omega arith in rw (drop-drop, e)
+
+-- and where the log is cut behind it
+start-kept : (k n l : ℕ) (s : List ℕ) → k + n ≤ l → take n (drop k (take l s)) ≡ take n (drop k s)
+start-kept zero n l s h = take-take n l s (omega arith)
+start-kept (suc k) n zero s h = absurd (omega arith)
+start-kept (suc k) n (suc l) [] h = refl
+start-kept (suc k) n (suc l) (a ∷ s) h = start-kept k n l s (omega arith)
+
+pub rec-start : (log : List ℕ) (l i : ℕ) → 24 * i + 24 ≤ l → recAt (take l log) i ≡ recAt log i
+rec-start log l i h = start-kept (24 * i) 24 l log h
 
 pub rec-byte : (log : List ℕ) (i k : ℕ) → k < 24 → getD (recAt log i) k 0 ≡ getD log (24 * i + k) 0
 rec-byte log i k h = getD-take 24 (drop (24 * i) log) k 0 h ∙ getD-drop (24 * i) log k 0
@@ -112,6 +122,17 @@ pub crossings-below : (i n : ℕ) (log : List ℕ) → i < n → isCrossing (rec
 crossings-below i n log h e =
     let s : crossingsIn (i + 1) log ≡ crossingsIn i log + 1 = crossings-step i log ∙ rw e in
     omega (arith, s, crossings-more (i + 1) n log (omega arith))
+
+-- those of a log that is cut in two, and those before a cut
+pub crossings-cut : (log : List ℕ) (m n : ℕ) → crossingsIn (m + n) log ≡ crossingsIn m log + crossingsIn n (drop (24 * m) log)
+unfolding crossingsIn
+crossings-cut log m zero = rw (add-zero, add-zero)
+crossings-cut log m (suc n) = rw (add-suc, crossings-cut log m n, rec-cut log m n) (omega arith)
+
+pub crossings-start : (log : List ℕ) (l n : ℕ) → 24 * n ≤ l → crossingsIn n (take l log) ≡ crossingsIn n log
+unfolding crossingsIn
+crossings-start log l zero h = refl
+crossings-start log l (suc n) h = rw (crossings-start log l n (omega arith), rec-start log l n (omega arith))
 
 -- a turn of the loop that counts them, by the first byte of a record
 pub crossings-turn : (log : List ℕ) (i sum r : ℕ) → sum ≡ crossingsIn i log → r ≡ one (eqb (getD log (24 * i) 0) 0) → sum + r ≡ crossingsIn (i + 1) log
@@ -229,3 +250,20 @@ ready done log room e =
       formed = eqb-true _ _ (formed .0);
       life = leb-true _ _ (life .0);
     }
+
+-- a block that succeeds has no other answer than DONE
+abbrev pub Settles : Told → Type 0
+Settles t = succeeded t ≡ true → t ≡ DONE
+
+pub settles : (t : Bool) (x y : Told) → succeeded y ≡ false → Settles x → Settles (if t x y)
+settles true x y n p d = p d
+settles false x y n p d = absurd (false≢true (sym n ∙ d))
+
+pub refusal-settles : (done : ℕ) (log : List ℕ) (room : ℕ) → Settles (refusalOf done log room)
+unfolding refusalOf
+refusal-settles done log room =
+    let n = recordsIn log in
+    settles (eqb (length log % 24) 0) _ LENGTH refl
+    (settles (leb (12 * n) room) _ (ROOM (12 * n)) refl
+    (settles (eqb (firstIll n log) n) _ (RECORD (firstIll n log)) refl
+    (settles (leb (done + crossingsIn n log) LIFETIME) _ LIFE refl (λ d. refl))))

@@ -1,7 +1,10 @@
 // The 24-byte records of a log, and the 12-byte rows that answer them (document 01, "Records and rows").
+mod blocks;
 mod rows;
 
 use answer::Answer;
+pub use blocks::Tested;
+pub use blocks::test_blocks;
 pub use rows::carries;
 pub use rows::command_row;
 pub use rows::crossing_row;
@@ -116,7 +119,7 @@ fn crossing(kind: u8) -> u64
     if kind == 0 { 1 } else { 0 }
 }
 
-fn crossings_in(log: &[u8], n: usize) -> u64
+pub(crate) fn crossings_in(log: &[u8], n: usize) -> u64
     requires { ⌜ length (now log) ≡ 24 * n ⌝ }
     ensures { λ r. ⌜ r ≡ crossingsIn n (now (log .entry)) ⌝ }
 {

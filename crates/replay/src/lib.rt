@@ -5,15 +5,9 @@ use board::Made;
 use board::Ran;
 use settings::Settings;
 ghost use mathlib.Core.Path.{_≡_};
-ghost use Prim.Native.Nat.{_+_, _≤_, min};
 ghost use Rattle.board.specs.Fresh.{madeOut};
 ghost use Rattle.board.specs.Block.{ranOut};
 ghost use Rattle.replay.specs.Replay.{openedOf, blocksIn, inBlocks};
-
-// The bytes of 64 records, and of their rows.
-const BLOCK: usize = 1536;
-
-const BLOCK_ROWS: usize = 768;
 
 // The fresh board of a settings text, or the first refusal.
 pub fn opened(text: &[u8]) -> Made
@@ -32,38 +26,16 @@ pub fn opened(text: &[u8]) -> Made
     }
 }
 
-// Where the block that begins at a place ends.
-fn block_end(at: usize, long: usize) -> usize
-    requires { ⌜ at ≤ long ⌝ }
-    ensures { λ r. ⌜ r ≡ min (at + 1536) long ⌝ }
-{
-    if long - at < BLOCK {
-        return long;
-    }
-    at + BLOCK
-}
-
 // The blocks of a log one after the other, each writing its rows where those of the last ended. The first refusal ends it: the
 // board is then the one after the blocks before, whose rows are written.
 pub fn run_blocks(board: Board, log: &[u8], rows: &mut [u8]) -> Ran
     ensures { λ r. ⌜ ranOut r (now (rows .exit)) ≡ inBlocks (blocksIn (now (log .entry))) board (now (log .entry)) (now (rows .entry)) ⌝ }
 {
-    let mut b = board;
-    let mut i: usize = 0;
-    while BLOCK * i < log.len() {
-        let at = BLOCK * i;
-        let end = block_end(at, log.len());
-        let r = b.block(&log[at..end], &mut rows[BLOCK_ROWS * i..]);
-        let a = r.answer;
-        if !a.is_done() {
-            return r;
-        }
-        let next = r.board;
-        b = next;
-        i += 1;
+    if log.len() == 0 {
+        return Ran {
+            answer: Answer::Done,
+            board: board,
+        };
     }
-    Ran {
-        answer: Answer::Done,
-        board: b,
-    }
+    board.blocks(log, rows)
 }

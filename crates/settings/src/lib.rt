@@ -11,6 +11,8 @@ pub use names::Rule;
 pub use names::Rules;
 pub use names::Schedule;
 pub use names::Waits;
+use table::high_values;
+use table::low_values;
 use table::range;
 use table::standard_values;
 ghost use mathlib.Core.Path.{_≡_};
@@ -66,10 +68,12 @@ impl Settings {
         ensures { λ r. ⌜ r ≡ firstOut (rangesOf table) 1 (self .values) ⌝ }
     {
         let v = self.values;
+        let lows = low_values();
+        let highs = high_values();
         let mut n = 0;
         while n < 71 {
             let x = v[n];
-            if !range(n).holds(x) {
+            if !range(&lows, &highs, n).holds(x) {
                 return n + 1;
             }
             n += 1;
@@ -96,11 +100,13 @@ impl Settings {
     pub fn read(text: &[u8]) -> Read
         ensures { λ r. ⌜ readOut r ≡ readText (now (text .entry)) ⌝ }
     {
+        let lows = low_values();
+        let highs = high_values();
         let mut values = [0u32; 71];
         let mut at = 0;
         let mut n = 0;
         while n < 71 {
-            let got = keys::read_line(text, at, n, range(n));
+            let got = keys::read_line(text, at, n, range(&lows, &highs, n));
             match got {
                 text::Line::Value(v, next) => {
                     values[n] = v;

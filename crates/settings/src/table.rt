@@ -2,7 +2,7 @@
 use text::Range;
 ghost use mathlib.Core.Path.{_≡_};
 ghost use Prim.Native.Nat.{_<_, _≤_};
-ghost use Rattle.settings.specs.support.Ranges.{rangeAt};
+ghost use Rattle.settings.specs.support.Ranges.{lowValues, highValues, rangeAt};
 ghost use Rattle.settings.specs.Read.{standardValues};
 
 const LOWS: [u32; 71] = [
@@ -175,8 +175,6 @@ const HIGHS: [u32; 71] = [
     8,
 ];
 
-const DIGITS: [usize; 71] = [5; 71];
-
 const STANDARD: [u32; 71] = [
     // orbit
     3564,
@@ -262,14 +260,28 @@ const STANDARD: [u32; 71] = [
     0,
 ];
 
-pub(crate) fn range(n: usize) -> Range
-    requires { ⌜ n < 71 ⌝ }
+// A constant array is laid on the stack at each use, so a loop over the lines takes these once and lends them.
+pub(crate) fn low_values() -> [u32; 71]
+    ensures { λ r. ⌜ r ≡ lowValues ⌝ }
+{
+    LOWS
+}
+
+pub(crate) fn high_values() -> [u32; 71]
+    ensures { λ r. ⌜ r ≡ highValues ⌝ }
+{
+    HIGHS
+}
+
+// Every line has at most five digits.
+pub(crate) fn range(lows: &[u32; 71], highs: &[u32; 71], n: usize) -> Range
+    requires { ⌜ (n < 71) × (now lows ≡ lowValues) × (now highs ≡ highValues) ⌝ }
     ensures { λ r. ⌜ (r ≡ rangeAt n) × (0 < r .digits) × (r .digits ≤ 8) ⌝ }
 {
     Range {
-        low: LOWS[n],
-        high: HIGHS[n],
-        digits: DIGITS[n],
+        low: lows[n],
+        high: highs[n],
+        digits: 5,
     }
 }
 

@@ -6,8 +6,7 @@ use borrow.Author.Tests.{not-true, not-false}
 use borrow.Author.Needs.{needs}
 use Rattle.board.specs.Sound.{soundBoard}
 use Rattle.board.specs.Block.{answerOf}
-use Rattle.board.proofs.Settled.{sound-parts}
-use Rattle.soundness.proofs.Life.{within-life}
+use Rattle.board.proofs.Settled.{sound-life}
 use Rattle.board.proofs.Board.refusal.Statement.{statement}
 use Rattle.board.proofs.Board.refusal.Tie as tie
 
@@ -22,7 +21,7 @@ unfolding answerOf
 returns c = rw (sym (c .before .is-sound .ensures) ∙ not-true _ (c .if1 .taken))
 
 refusal-requires : tie.Need-refusal-requires
-refusal-requires c κs = within-life _ _ (sound-parts _ (sound c) .clock)
+refusal-requires c κs = sound-life _ (sound c)
 
 returns-2 : tie.Need-returns-2
 unfolding answerOf

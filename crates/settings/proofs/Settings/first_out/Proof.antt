@@ -13,10 +13,16 @@ use Rattle.settings.proofs.Settings.first_out.Statement.{statement}
 use Rattle.settings.proofs.Settings.first_out.Tie as tie
 
 abbrev Inv-loop : tie.InvT-loop
-Inv-loop v n₀ n = (n ≤ 71) × (length v ≡ 71) × (firstOut (rangesOf table) 1 v ≡ firstOut (drop n (rangesOf table)) (n + 1) (drop n v))
+Inv-loop v lows highs n₀ n = (n ≤ 71) × (length v ≡ 71) × (firstOut (rangesOf table) 1 v ≡ firstOut (drop n (rangesOf table)) (n + 1) (drop n v))
 
 abbrev μ-loop : tie.MeasureT-loop
-μ-loop v n₀ n = 71 - n
+μ-loop v lows highs n₀ n = 71 - n
+
+low-values-requires : tie.Need-low-values-requires Inv-loop μ-loop
+low-values-requires c κs = search needs
+
+high-values-requires : tie.Need-high-values-requires Inv-loop μ-loop
+high-values-requires c κs = search needs
 
 loop-holds : tie.Need-loop-holds Inv-loop μ-loop
 loop-holds c = (omega arith, search needs, refl)
@@ -39,7 +45,7 @@ add-result c = search needs
 returns : tie.Need-returns Inv-loop μ-loop
 returns c =
     let h = c .before in
-    let t = h .before .before in
+    let t = h .before .before .before .before in
     let i = t .before .loop .inv in
     sym (i .2 ∙ range-here _ _ (i .1) (t .loop-test .taken) _ (h .before .range .ensures .0) (sym (h .holds .ensures) ∙ not-true _ (c .if1 .taken)))
 
@@ -52,7 +58,7 @@ loop-less c = search needs
 loop-again : tie.Need-loop-again Inv-loop μ-loop
 loop-again c =
     let h = c .before in
-    let t = h .before .before in
+    let t = h .before .before .before .before in
     let i = t .before .loop .inv in
     (omega arith, i .1, i .2 ∙ range-later _ _ (i .1) (t .loop-test .taken) _ (h .before .range .ensures .0) (sym (h .holds .ensures) ∙ not-false _ (c .if1 .left)))
 
@@ -65,6 +71,8 @@ first-out-spec =
     (tie.spec
     Inv-loop
     μ-loop
+    low-values-requires
+    high-values-requires
     loop-holds
     mul-x
     array-read-x

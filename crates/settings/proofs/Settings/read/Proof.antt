@@ -14,11 +14,17 @@ use Rattle.settings.proofs.Settings.read.Statement.{statement}
 use Rattle.settings.proofs.Settings.read.Tie as tie
 
 abbrev Inv-loop : tie.InvT-loop
-Inv-loop text values₀ at₀ n₀ values at n =
+Inv-loop text lows highs values₀ at₀ n₀ values at n =
     (n ≤ 71) × (at ≤ length text) × (length values ≡ 71) × (readLines table [] text ≡ readLines (drop n table) (take n values) (drop at text))
 
 abbrev μ-loop : tie.MeasureT-loop
-μ-loop text values₀ at₀ n₀ values at n = 71 - n
+μ-loop text lows highs values₀ at₀ n₀ values at n = 71 - n
+
+low-values-requires : tie.Need-low-values-requires Inv-loop μ-loop
+low-values-requires c κs = search needs
+
+high-values-requires : tie.Need-high-values-requires Inv-loop μ-loop
+high-values-requires c κs = search needs
 
 loop-holds : tie.Need-loop-holds Inv-loop μ-loop
 loop-holds c = (omega arith, omega arith, refl, refl)
@@ -48,10 +54,10 @@ loop-again : tie.Need-loop-again Inv-loop μ-loop
 loop-again c =
     let g = c .before in
     let r = g .before .before in
-    let t = r .before .before in
+    let t = r .before .before .before .before in
     let l = t .before in
     let i = l .loop .inv in
-    let s = l .before .before .args .text .now in (
+    let s = l .before .before .before .before .args .text .now in (
       omega arith,
       subst (LineWithin s) (g .got .given .1) (r .read-line .ensures .inside),
       simp length-set (i .2),
@@ -62,8 +68,8 @@ loop-again c =
 enum-told : tie.Need-enum-told Inv-loop μ-loop
 enum-told c = search needs
 
-add-t15 : tie.Need-add-t15 Inv-loop μ-loop
-add-t15 c = search needs
+add-t20 : tie.Need-add-t20 Inv-loop μ-loop
+add-t20 c = search needs
 
 refusal-requires : tie.Need-refusal-requires Inv-loop μ-loop
 refusal-requires c κs = search needs
@@ -71,10 +77,10 @@ refusal-requires c κs = search needs
 returns : tie.Need-returns Inv-loop μ-loop
 returns c =
     let r = c .before .before .before in
-    let t = r .before .before in
+    let t = r .before .before .before .before in
     let l = t .before in
     let i = l .loop .inv in
-    let s = l .before .before .args .text .now in
+    let s = l .before .before .before .before .args .text .now in
     c .refusal .ensures
     ∙ sym (ill-is (l .loop .values) s (l .loop .at) (l .loop .n) (i .2) (i .3) (t .loop-test .taken) _ (r .before .range .ensures .0)
     (ap (lineSeen s) (sym (c .before .enum-told .given .1)) ∙ r .read-line .ensures .says))
@@ -82,8 +88,8 @@ returns c =
 enum-told-2 : tie.Need-enum-told-2 Inv-loop μ-loop
 enum-told-2 c = search needs
 
-add-t17 : tie.Need-add-t17 Inv-loop μ-loop
-add-t17 c = search needs
+add-t22 : tie.Need-add-t22 Inv-loop μ-loop
+add-t22 c = search needs
 
 refusal-requires-2 : tie.Need-refusal-requires-2 Inv-loop μ-loop
 refusal-requires-2 c κs = search needs
@@ -91,10 +97,10 @@ refusal-requires-2 c κs = search needs
 returns-2 : tie.Need-returns-2 Inv-loop μ-loop
 returns-2 c =
     let r = c .before .before .before in
-    let t = r .before .before in
+    let t = r .before .before .before .before in
     let l = t .before in
     let i = l .loop .inv in
-    let s = l .before .before .args .text .now in
+    let s = l .before .before .before .before .args .text .now in
     c .refusal2 .ensures
     ∙ sym (out-is (l .loop .values) s (l .loop .at) (l .loop .n) (i .2) (i .3) (t .loop-test .taken) _ (r .before .range .ensures .0)
     (ap (lineSeen s) (sym (c .before .enum-told2 .given .1)) ∙ r .read-line .ensures .says))
@@ -138,6 +144,8 @@ read-spec =
     (tie.spec
     Inv-loop
     μ-loop
+    low-values-requires
+    high-values-requires
     loop-holds
     range-requires
     read-line-requires
@@ -148,11 +156,11 @@ read-spec =
     loop-less
     loop-again
     enum-told
-    add-t15
+    add-t20
     refusal-requires
     returns
     enum-told-2
-    add-t17
+    add-t22
     refusal-requires-2
     returns-2
     refusal-requires-3
