@@ -7,7 +7,10 @@ use Rattle.throttle.proofs.Ring.{marking}
 use Rattle.eight.proofs.Orbits.{orbits-cleared}
 use Rattle.outcomes.proofs.Outcomes.{one-outcome}
 use Rattle.figures.proofs.Figures.{figures}
+use Rattle.report.proofs.Fits.{report-fits}
 use Rattle.cut.proofs.Program.{program}
+use Rattle.pieces.proofs.Pieces.{pieces}
+use Rattle.pieces.proofs.Printing.{printing}
 use Rattle.slots.proofs.Slots.{slots}
 use Rattle.slots.proofs.Rounds.{rounds}
 use Rattle.programs.proofs.Programs.{no-empty-program}
@@ -25,6 +28,9 @@ promises =
       figures = figures;
       whole-log = whole-log;
       program = program;
+      pieces = pieces;
+      printing = printing;
+      report-fits = report-fits;
       slots = slots;
       rounds = rounds;
       no-empty-program = no-empty-program;
