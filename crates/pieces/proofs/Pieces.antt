@@ -176,6 +176,7 @@ pub pieces : Pieces
 pieces =
     record {
       same = same;
+      accepted = λ b pieces whole fits done. same b pieces whole fits ∙ program .same b (uncut pieces) (lentRows pieces) whole done;
       refused = λ b pieces n whole fits h done stopped.
           same b pieces whole fits ∙ program .refused b (uncut pieces) (lentRows pieces) n whole h done stopped;
       any-buffer = λ b log rows whole room. as-replayed b log (whole .ptcs) rows room;

@@ -26,7 +26,7 @@ module _ (text log : List ℕ) where
   closing-fit = blocks-fit (blocksIn log) (openedOf text .board) log _ (opened-fit text)
 
   module _ (opens : openedOf text .answer ≡ DONE) (through : outcomeOf text log .answer ≡ DONE) where
-    shown-is : (shown : RanOut → List ℕ) → printedBy shown text log ≡ shown (outcomeOf text log)
+    pub shown-is : (shown : RanOut → List ℕ) → printedBy shown text log ≡ shown (outcomeOf text log)
     unfolding printedBy
     shown-is shown = rw (opens, through)
 

@@ -8,7 +8,7 @@ use Rattle.laws.specs.Base.{if}
 use Rattle.answer.specs.Told.{succeeded, DONE}
 use Rattle.records.specs.Refusal.{recordsIn}
 use Rattle.board.specs.declared.Board.{Board}
-use Rattle.board.specs.Block.{RanOut}
+use Rattle.board.specs.Block.{RanOut, blockOf}
 use Rattle.replay.specs.Replay.{blocksIn, inBlocks}
 use Rattle.replay.specs.Printed.{replayed}
 use Rattle.cut.specs.Blocks.{Lent, uncut, Whole}
@@ -42,7 +42,7 @@ inPieces b (x ∷ xs) =
     (record { answer = later .answer; board = later .board; rows = rowsPart x (o .rows) ++ later .rows })
     (record { answer = o .answer; board = o .board; rows = rowsPart x (o .rows) ++ lentRows xs })
 
--- a log's outcome in a buffer that has room for its rows, and what the buffer held or holds beyond
+-- what a log gives in some buffer: the answer and the board of `replayed`, and where it goes through, its rows and the later bytes as they were
 pub record AsReplayed (b : Board) (log buffer : List ℕ) (o : RanOut) : Type 0 where
   pub answer : o .answer ≡ replayed b log .answer
   pub board : o .board ≡ replayed b log .board
@@ -52,6 +52,9 @@ pub record Pieces : Type 0 where
   -- the same answer, refusals among them, the same board and the same bytes
   pub same : (b : Board) (pieces : List Lent) → Whole b → InPieces pieces
       → inPieces b pieces ≡ inBlocks (blocksIn (uncut pieces)) b (uncut pieces) (lentRows pieces)
+  -- a log that is accepted whole goes through with the same rows and board
+  pub accepted : (b : Board) (pieces : List Lent) → Whole b → InPieces pieces → blockOf b (uncut pieces) (lentRows pieces) .answer ≡ DONE
+      → inPieces b pieces ≡ blockOf b (uncut pieces) (lentRows pieces)
   -- a refusal in block n, counted from 0 through all pieces, those before it accepted: board and rows are as they left them
   pub refused : (b : Board) (pieces : List Lent) (n : ℕ) → Whole b → InPieces pieces
       → n < blocksIn (uncut pieces)
