@@ -36,11 +36,11 @@ on-has : (P : RanOut → Type 0) (o : RanOut) (next : Board → RanOut) → (suc
 on-has P o next = if-has P (succeeded (o .answer)) (goOn o (next (o .board))) o
 
 -- nothing more
-abbrev pub still : Board → RanOut
-still b = record { answer = DONE; board = b; rows = [] }
+abbrev pub nothingRun : Board → RanOut
+nothingRun b = record { answer = DONE; board = b; rows = [] }
 
-on-still : (o : RanOut) → Settles (o .answer) → onFrom o still ≡ o
-on-still o settles =
+on-nothing : (o : RanOut) → Settles (o .answer) → onFrom o nothingRun ≡ o
+on-nothing o settles =
     ⊎-elim
     (λ (d : succeeded (o .answer) ≡ true). rw (settles d, append-nil) (rw (← settles d)))
     (λ (d : succeeded (o .answer) ≡ false). rw d)
@@ -68,7 +68,7 @@ bareBlock b log =
     (record { answer = a; board = b; rows = [] })
 
 unfoldable pub unbuffered : ℕ → Board → List ℕ → RanOut
-unbuffered zero b log = still b
+unbuffered zero b log = nothingRun b
 unbuffered (suc n) b log = onFrom (unbuffered n b log) (λ c. bareBlock c (blockAt log n))
 
 -- an outcome laid over the front of a buffer
@@ -131,7 +131,7 @@ module _ (b : Board) (log : List ℕ) where
 
   pub in-turn : (m n : ℕ) → unbuffered (m + n) b log ≡ onFrom (unbuffered m b log) (λ c. unbuffered n c (drop (1536 * m) log))
   unfolding unbuffered
-  in-turn m zero = rw add-zero (sym (on-still (unbuffered m b log) (settles m)))
+  in-turn m zero = rw add-zero (sym (on-nothing (unbuffered m b log) (settles m)))
   in-turn m (suc n) =
       let o = unbuffered m b log in
       let rest = drop (1536 * m) log in
