@@ -43,6 +43,9 @@ slice-aggregate-write-all c = sym (length-take-le _ _ (omega (arith, short (c .b
 write-all-requires : tie.Need-write-all-requires
 write-all-requires c κs = search needs
 
+finish-requires : tie.Need-finish-requires
+finish-requires c κs = search needs
+
 returns-2 : tie.Need-returns-2
 returns-2 c = search needs
 
@@ -59,4 +62,5 @@ print-report-spec =
     array-share-prefix-text
     slice-aggregate-write-all
     write-all-requires
+    finish-requires
     returns-2)
