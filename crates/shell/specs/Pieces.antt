@@ -10,8 +10,7 @@ use Rattle.io.specs.Counts.{Counts}
 use Rattle.laws.specs.Base.{if}
 use Rattle.answer.specs.Told.{Told, succeeded, DONE}
 use Rattle.board.specs.declared.Board.{Board}
-use Rattle.board.specs.declared.Ran.{Ran}
-use Rattle.board.specs.Block.{RanOut, ranOut}
+use Rattle.board.specs.Block.{RanOut}
 use Rattle.replay.specs.Replay.{blocksIn, inBlocks}
 
 -- n bytes that were read, and whether reading failed after them: all lie in the piece, and a file that could not be opened, a
@@ -26,7 +25,3 @@ pieceRun failed b log rows = if failed (record { answer = DONE; board = b; rows 
 -- more of the log may follow: the piece was read, is full and was accepted
 abbrev pub isFull : Bool → ℕ → Told → Bool
 isFull failed n a = if failed false (if (ltb n 61440) false (succeeded a))
-
--- what the last piece of a log gives: some board, after the pieces before it, and some bytes
-abbrev pub OfSomePiece : Bool → Ran → Type 0
-OfSomePiece failed r = (b : Board) × (log : List ℕ) × (rows : List ℕ) × (after : List ℕ) × (ranOut r after ≡ pieceRun failed b log rows)

@@ -9,7 +9,8 @@ ghost use mathlib.Core.Path.{_≡_};
 ghost use Rattle.answer.specs.Told.{told};
 ghost use Rattle.board.specs.Block.{ranOut};
 ghost use Rattle.shell.specs.Opened.{OfSomeText};
-ghost use Rattle.shell.specs.Pieces.{ReadFrom, pieceRun, isFull, OfSomePiece};
+ghost use Rattle.shell.specs.Pieces.{ReadFrom, pieceRun, isFull};
+ghost use Rattle.shell.specs.Logs.{OfSomeLog};
 
 // The bytes of 40 blocks.
 pub const PIECE: usize = 61440;
@@ -117,9 +118,10 @@ impl Step {
     }
 }
 
-// Runs the log, and hands back its last step. No file is as long as the budget: it shows that the loop ends.
+// Runs the log, and hands back its last step: answer and board are those of the bytes that were read, in blocks of 64 records. Where
+// reading failed, they are those of the pieces before. No file is as long as the budget: it shows that the loop ends.
 pub fn replay_log(fresh: Board) -> Step
-    ensures { λ r. ⌜ OfSomePiece (r .got .failed) (r .ran) ⌝ }
+    ensures { λ r. ⌜ OfSomeLog fresh (r .ran) ⌝ }
 {
     let log = os::open_read(b"run.rec");
     let mut piece = [0u8; PIECE];

@@ -1,17 +1,26 @@
--- `shell::replay_log` meets its contract: what it hands back is the last step, which ran some bytes over the board before it.
--- The budget is the measure; where it is used up, nothing was run, as after a failed read.
-use mathlib.Core.Path.{_≡_, refl}
-use mathlib.Core.List.{[]}
+-- `shell::replay_log` meets its contract: the board so far is that of the pieces before, and the last step goes on from it.
+-- Each turn is the law of one piece more. The budget is the measure; where it is used up, nothing was run, as after a failed read.
+use mathlib.Core.Path.{_≡_, refl, sym, _∙_}
 use borrow.Author.Needs.{needs}
-use lib.ListN.{length, take}
+use borrow.Author.Tests.{not-false}
+use lib.ListN.{length}
+use Rattle.laws.proofs.Tests.{mapped-long}
+use Rattle.answer.specs.declared.Answer.the-variants.{Done}
+use Rattle.shell.proofs.Laws.{SoFar, start, nothing-run, last, goes-on}
 use Rattle.shell.proofs.replay_log.Statement.{statement}
 use Rattle.shell.proofs.replay_log.Tie as tie
 
 abbrev Inv-loop : tie.InvT-loop
-Inv-loop log piece₀ rows₀ board₀ budget₀ piece rows board budget = (length piece ≡ 61440) × (length rows ≡ 30720)
+Inv-loop log piece₀ rows₀ board₀ budget₀ piece rows board budget = (length piece ≡ 61440) × (length rows ≡ 30720) × SoFar board₀ board
 
 abbrev μ-loop : tie.MeasureT-loop
 μ-loop log piece₀ rows₀ board₀ budget₀ piece rows board budget = budget
+
+ptcs-long : (c : tie.Start Inv-loop μ-loop) → length (c .args .fresh .ptcs) ≡ 8
+ptcs-long c = search (needs, mapped-long)
+
+read-long : (c : tie.After-run-piece Inv-loop μ-loop) → length (c .run-piece .last .1 .1 .0) ≡ 61440
+read-long c = search needs
 
 slice-aggregate-open-read : tie.Need-slice-aggregate-open-read Inv-loop μ-loop
 slice-aggregate-open-read c = search needs
@@ -20,7 +29,7 @@ open-read-requires : tie.Need-open-read-requires Inv-loop μ-loop
 open-read-requires c κs = search needs
 
 loop-holds : tie.Need-loop-holds Inv-loop μ-loop
-loop-holds c = search needs
+loop-holds c = (search needs, search needs, start _)
 
 slice-aggregate-run-piece : tie.Need-slice-aggregate-run-piece Inv-loop μ-loop
 slice-aggregate-run-piece c = search needs
@@ -36,8 +45,11 @@ is-full-requires c κs = search needs
 
 returns : tie.Need-returns Inv-loop μ-loop
 returns c =
-    let r = c .before .before .before .before .run-piece in
-    (_, take (r .result .got .«count») (r .last .1 .1 .0), _, _, r .ensures .1)
+    let p = c .before .before .before .before in
+    let l = p .before .before .before .before .loop in
+    let s = p .before .before .before .before .before .before .before in
+    let r = p .run-piece in
+    last _ (l .board) (l .inv .2) (ptcs-long s) (r .result .got .«count») (r .last .1 .1 .0) (l .rows) (read-long p) (l .inv .1) (r .result .got .failed) (r .result .ran) _ (r .ensures .1)
 
 sub-budget : tie.Need-sub-budget Inv-loop μ-loop
 sub-budget c = search needs
@@ -46,10 +58,20 @@ loop-less : tie.Need-loop-less Inv-loop μ-loop
 loop-less c = search needs
 
 loop-again : tie.Need-loop-again Inv-loop μ-loop
-loop-again c = search needs
+loop-again c =
+    let e = c .before .before in
+    let p = e .before .before .before .before in
+    let l = p .before .before .before .before .loop in
+    let s = p .before .before .before .before .before .before .before in
+    let r = p .run-piece in (
+      search needs,
+      search needs,
+      goes-on _ (l .board) (l .inv .2) (ptcs-long s) (r .result .got .«count») (r .last .1 .1 .0) (l .rows) (read-long p) (l .inv .1) (r .result .got .failed) (r .result .ran) _ (r .ensures .1)
+          (sym (e .before .is-full .ensures) ∙ not-false _ (e .if1 .left)),
+    )
 
 returns-2 : tie.Need-returns-2 Inv-loop μ-loop
-returns-2 c = (_, [], [], [], refl)
+returns-2 c = let l = c .before .loop in nothing-run _ (l .board) (l .inv .2) (record { answer = Done; board = l .board }) refl refl
 
 pub replay-log-spec : {M : Type 1} → statement M
 replay-log-spec =
