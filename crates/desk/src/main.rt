@@ -2,15 +2,26 @@
 // number of the first refusal.
 use board::Board;
 use libc::STDOUT_FILENO;
+ghost use Prim.Native.Nat.{_≤_};
+ghost use lib.ListN.{length, take};
+ghost use Rattle.report.specs.Fits.{reportRoom};
+ghost use Rattle.desk.specs.Printed.{Closing, OfSomeFiles};
 
-fn print_report(board: Board) {
+// The report at the front of a buffer that has room for every report, and how many bytes it has: what is printed for some text
+// and some log. Writing it is never refused here.
+fn lay_report(board: Board, text: &mut [u8]) -> usize
+    requires { ⌜ (Closing board) × (reportRoom ≤ length (now text)) ⌝ }
+    ensures { λ r. ⌜ (r ≤ length (now (text .exit))) × (OfSomeFiles (take r (now (text .exit)))) ⌝ }
+{
+    report::write(board, text);
+    report::text_length(board)
+}
+
+fn print_report(board: Board)
+    requires { ⌜ Closing board ⌝ }
+{
     let mut text = [0u8; 8192];
-    let a = report::write(board, &mut text);
-    if !a.is_done() {
-        ending::refuse(a);
-        return;
-    }
-    let n = report::text_length(board);
+    let n = lay_report(board, &mut text);
     ending::finish(io::write_all(STDOUT_FILENO, &text[..n]));
 }
 
