@@ -5,8 +5,10 @@ use board::Board;
 use libc::STDOUT_FILENO;
 use shell::PIECE;
 use shell::Step;
+ghost use mathlib.Core.Path.{_≡_};
 ghost use Prim.Native.Nat.{_+_, _≤_, _<_};
 ghost use lib.ListN.{length};
+ghost use Rattle.shell.specs.Logs.{AnswerToSomeLog};
 
 // What one time through the log gives. Two times are held against each other by their bytes and the sum of their rows.
 struct Pass {
@@ -54,7 +56,9 @@ fn write_if(wanted: bool, rows: &[u8]) -> bool {
 
 impl Pass {
     // What a piece adds, its rows written where they are wanted. One that was not read, or is refused, adds nothing.
-    fn after(self, step: Step, rows: &[u8], writes: bool) -> Pass {
+    fn after(self, step: Step, rows: &[u8], writes: bool) -> Pass
+        ensures { λ r. ⌜ r .answer ≡ step .ran .answer ⌝ }
+    {
         let got = step.got;
         let ran = step.ran;
         let a = ran.answer;
@@ -88,7 +92,9 @@ impl Pass {
 }
 
 // Runs the log, and writes its rows where they are wanted. No file is as long as the budget: it shows that the loop ends.
-fn go_through(fresh: Board, writes: bool) -> Pass {
+fn go_through(fresh: Board, writes: bool) -> Pass
+    ensures { λ r. ⌜ AnswerToSomeLog fresh (r .answer) ⌝ }
+{
     let log = os::open_read(b"run.rec");
     let mut piece = [0u8; PIECE];
     let mut rows = [0u8; PIECE / 2];
