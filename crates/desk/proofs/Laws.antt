@@ -9,7 +9,7 @@ use borrow.Author.Tests.{not-false}
 use lib.ListN.{length, take, drop, length-append}
 use lib.Seq.{take-at}
 use Rattle.answer.specs.declared.Answer.{Answer}
-use Rattle.answer.specs.Told.{Told, told, succeeded, DONE}
+use Rattle.answer.specs.Told.{told, succeeded, DONE}
 use Rattle.answer.proofs.Told.{told-done}
 use Rattle.board.specs.declared.Board.{Board}
 use Rattle.board.specs.declared.Made.{Made}
