@@ -7,5 +7,5 @@ fn main() {
     let s = Settings::standard();
     s.write(&mut text);
     let n = s.text_length();
-    io::write_all(STDOUT_FILENO, &text[..n]);
+    ending::finish(io::write_all(STDOUT_FILENO, &text[..n]));
 }

@@ -8,7 +8,10 @@ use Rattle.eight.proofs.Orbits.{orbits-cleared}
 use Rattle.replay.proofs.TestedFirst.{tested-first}
 use Rattle.outcomes.proofs.Outcomes.{one-outcome}
 use Rattle.figures.proofs.Figures.{figures}
+use Rattle.report.proofs.Fits.{report-fits}
 use Rattle.cut.proofs.Program.{program}
+use Rattle.pieces.proofs.Pieces.{pieces}
+use Rattle.pieces.proofs.Printing.{printing}
 use Rattle.slots.proofs.Slots.{slots}
 use Rattle.slots.proofs.Rounds.{rounds}
 use Rattle.programs.proofs.Programs.{no-empty-program}
@@ -26,6 +29,9 @@ promises =
       figures = figures;
       whole-log = whole-log;
       program = program;
+      pieces = pieces;
+      printing = printing;
+      report-fits = report-fits;
       slots = slots;
       rounds = rounds;
       no-empty-program = no-empty-program;

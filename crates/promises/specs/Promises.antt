@@ -14,7 +14,10 @@ use Rattle.eight.specs.Orbits.{OrbitsCleared}
 use Rattle.replay.specs.TestedFirst.{TestedFirst}
 use Rattle.outcomes.specs.Outcomes.{OneOutcome}
 use Rattle.figures.specs.Figures.{Figures}
+use Rattle.report.specs.Fits.{ReportFits}
 use Rattle.cut.specs.Program.{Program}
+use Rattle.pieces.specs.Pieces.{Pieces}
+use Rattle.pieces.specs.Printing.{Printing}
 use Rattle.slots.specs.Slots.{Slots}
 use Rattle.slots.specs.Rounds.{Rounds}
 use Rattle.programs.specs.Programs.{NoEmptyProgram}
@@ -48,6 +51,10 @@ pub record Promises : Type 0 where
   -- demand 3, and that no group's trigger gets into another group's file: of any blocks, and of the programs' blocks of 64 records
   pub whole-log : WholeLogs
   pub program : Program
+  -- what the programs print, for all that they read the log in pieces; and the buffer that they lend for the report is long enough
+  pub pieces : Pieces
+  pub printing : Printing
+  pub report-fits : ReportFits
   -- the number and the holder that the desk goes by are those that settings and markers give by counting, and each hold lasts its orbits
   pub slots : Slots
   pub rounds : (slots : List ℕ) → Rounds slots

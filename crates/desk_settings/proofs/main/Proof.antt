@@ -38,6 +38,9 @@ slice-aggregate-write-all c = sym (length-take-le _ _ (omega (arith, long (c .be
 write-all-requires : tie.Need-write-all-requires
 write-all-requires c κs = search needs
 
+finish-requires : tie.Need-finish-requires
+finish-requires c κs = search needs
+
 returns : tie.Need-returns
 returns c = search needs
 
@@ -52,4 +55,5 @@ main-spec =
     array-share-prefix-text
     slice-aggregate-write-all
     write-all-requires
+    finish-requires
     returns)

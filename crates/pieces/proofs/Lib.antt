@@ -1,0 +1,4 @@
+mod Unbuffered
+pub mod Pieces
+pub mod Kept
+pub mod Printing
