@@ -44,9 +44,9 @@ use Rattle.kit.specs.Kit.{planOf}
 use Rattle.kit.specs.support.Laid.{kitOf}
 use Rattle.eight.specs.Eight.{actOf, ptcOf, byteOf, shownOf, clockOf}
 use Rattle.eight.proofs.Eight.{room-at, shown-low}
-use Rattle.still.specs.declared.Look.{Look}
+use Rattle.still.specs.declared.Sight.{Sight}
 use Rattle.still.specs.support.Still.{sameBefore, dueOf}
-use Rattle.still.specs.support.Look.{firstLook, lookOf, sceneFor}
+use Rattle.still.specs.support.Sight.{firstSight, sightOf, sceneFor}
 use Rattle.still.proofs.Passing.{passed as passes, passed-over, due-low, same-votes}
 use Rattle.still.proofs.Seen.{wholeScene, scene-seen}
 use Rattle.still.proofs.Acting.{Quiet, Acted}
@@ -70,20 +70,20 @@ pub record Calm (log got shown : List ℕ) (i : ℕ) (ps : List Ptc) : Type 0 wh
   pub shows : (j : ℕ) → j < 8 → statusOf (getD ps j freshPtc .state) ≡ getD shown j 0
 
 -- before record i the state of the loop stands for the board after the records before it
-pub record Stands (first : Board) (log : List ℕ) (n : ℕ) (old : List ℕ) (kit : Kit) (rows : List ℕ) (kept : Board) (clock : Clock) (look : Look)
+pub record Stands (first : Board) (log : List ℕ) (n : ℕ) (old : List ℕ) (kit : Kit) (rows : List ℕ) (kept : Board) (clock : Clock) (sight : Sight)
     (shown : List ℕ) (calm : Bool) (i : ℕ) : Type 0 where
   pub most : i ≤ n
-  pub board : settled kept clock (look .turn) ≡ ran i first log
+  pub board : settled kept clock (sight .turn) ≡ ran i first log
   pub laidOut : rows ≡ rowsOf i first log ++ drop (12 * i) old
   pub long : length rows ≡ length old
   pub wide : length shown ≡ 8
-  pub votes : 0 < i → isCrossing (recAt log (i - 1)) ≡ true → look .classes ≡ voted (kit .merger) (codesIn (recAt log (i - 1))) 40
-  pub still : calm ≡ true → Calm log (look .classes) shown i (kept .ptcs)
+  pub votes : 0 < i → isCrossing (recAt log (i - 1)) ≡ true → sight .classes ≡ voted (kit .merger) (codesIn (recAt log (i - 1))) 40
+  pub still : calm ≡ true → Calm log (sight .classes) shown i (kept .ptcs)
 
-pub stands-first : (first : Board) (log : List ℕ) (n : ℕ) (old : List ℕ) (kit : Kit) (look : Look) → look ≡ firstLook (first .turn)
-    → Stands first log n old kit old first (first .clock) look (replicate 8 0) false 0
+pub stands-first : (first : Board) (log : List ℕ) (n : ℕ) (old : List ℕ) (kit : Kit) (sight : Sight) → sight ≡ firstSight (first .turn)
+    → Stands first log n old kit old first (first .clock) sight (replicate 8 0) false 0
 unfolding ran rowsOf
-stands-first first log n old kit look e =
+stands-first first log n old kit sight e =
     record {
       most = omega arith;
       board = rw e;
@@ -95,7 +95,7 @@ stands-first first log n old kit look e =
     }
 
 -- a turn: the block that is run, which is not refused, and the state before its record i
-pub record Begun (first : Board) (log : List ℕ) (n : ℕ) (old : List ℕ) (kit : Kit) (rows : List ℕ) (kept : Board) (clock : Clock) (look : Look)
+pub record Begun (first : Board) (log : List ℕ) (n : ℕ) (old : List ℕ) (kit : Kit) (rows : List ℕ) (kept : Board) (clock : Clock) (sight : Sight)
     (shown : List ℕ) (calm : Bool) (i : ℕ) : Type 0 where
   pub fit : Fit first
   pub long : length log ≡ 24 * n
@@ -105,13 +105,13 @@ pub record Begun (first : Board) (log : List ℕ) (n : ℕ) (old : List ℕ) (ki
   pub bytes : (k : ℕ) → getD log k 0 < 256
   pub made : kit ≡ kitOf (first .settings)
   pub less : i < n
-  pub here : Stands first log n old kit rows kept clock look shown calm i
+  pub here : Stands first log n old kit rows kept clock sight shown calm i
 
-module _ {first : Board} {log : List ℕ} {n : ℕ} {old : List ℕ} {kit : Kit} {rows : List ℕ} {kept : Board} {clock : Clock} {look : Look}
-    {shown : List ℕ} {calm : Bool} {i : ℕ} (t : Begun first log n old kit rows kept clock look shown calm i) where
+module _ {first : Board} {log : List ℕ} {n : ℕ} {old : List ℕ} {kit : Kit} {rows : List ℕ} {kept : Board} {clock : Clock} {sight : Sight}
+    {shown : List ℕ} {calm : Bool} {i : ℕ} (t : Begun first log n old kit rows kept clock sight shown calm i) where
   -- the board before this record
   abbrev now : Board
-  now = settled kept clock (look .turn)
+  now = settled kept clock (sight .turn)
 
   abbrev rec : List ℕ
   rec = recAt log i
@@ -148,12 +148,12 @@ module _ {first : Board} {log : List ℕ} {n : ℕ} {old : List ℕ} {kit : Kit}
 
   -- ---- the state after a record, where it stands for the board after it
 
-  stands : (kept' : Board) (clock' : Clock) (look' : Look) (shown' : List ℕ) (calm' : Bool) (part : List ℕ) → settled kept' clock' (look' .turn) ≡ stepped now rec
+  stands : (kept' : Board) (clock' : Clock) (sight' : Sight) (shown' : List ℕ) (calm' : Bool) (part : List ℕ) → settled kept' clock' (sight' .turn) ≡ stepped now rec
       → part ≡ rowOf now rec ++ drop 12 (take (length rows - 12 * i) (drop (12 * i) rows)) → length shown' ≡ 8
-      → (isCrossing rec ≡ true → look' .classes ≡ voted (kit .merger) (codesIn rec) 40) → (calm' ≡ true → Calm log (look' .classes) shown' (i + 1) (kept' .ptcs))
-      → Stands first log n old kit (putMid (12 * i) (length rows - 12 * i) rows part) kept' clock' look' shown' calm' (i + 1)
+      → (isCrossing rec ≡ true → sight' .classes ≡ voted (kit .merger) (codesIn rec) 40) → (calm' ≡ true → Calm log (sight' .classes) shown' (i + 1) (kept' .ptcs))
+      → Stands first log n old kit (putMid (12 * i) (length rows - 12 * i) rows part) kept' clock' sight' shown' calm' (i + 1)
   unfolding ran rowsOf
-  stands kept' clock' look' shown' calm' part b p w v c =
+  stands kept' clock' sight' shown' calm' part b p w v c =
       let row = rowOf (ran i first log) rec in
       let eight = t .fit .ptcs in
       let wide = row-of-long (ran i first log) rec (ran-ptcs-long first log i ∙ eight) in
@@ -180,11 +180,11 @@ module _ {first : Board} {log : List ℕ} {n : ℕ} {old : List ℕ} {kit : Kit}
   pub command-stands : (o : Commanded) (row part : List ℕ) → isCrossing rec ≡ false
       → o ≡ commandedOf (kit .plan .waits) (getD log (24 * i + 2) 0) (getD (kept .ptcs) (getD log (24 * i + 1) 0) freshPtc)
       → row ≡ commandRow (o .taken) → part ≡ row ++ drop 12 (take (length rows - 12 * i) (drop (12 * i) rows))
-      → Stands first log n old kit (putMid (12 * i) (length rows - 12 * i) rows part) (withPtcs kept (set (kept .ptcs) (getD log (24 * i + 1) 0) (o .ptc))) clock look shown false (i + 1)
+      → Stands first log n old kit (putMid (12 * i) (length rows - 12 * i) rows part) (withPtcs kept (set (kept .ptcs) (getD log (24 * i + 1) 0) (o .ptc))) clock sight shown false (i + 1)
   unfolding stepped rowOf boardCommanded rowCommanded commandIn kitOf
   command-stands o row part k e r p =
       let is = rw (byte-at 1 (omega arith), byte-at 2 (omega arith), own-at) at e in
-      stands _ clock look shown false part
+      stands _ clock sight shown false part
       (rw (k, byte-at 1 (omega arith), is))
       (p ∙ rw (k, r, is))
       (t .here .wide) (λ z. absurd (false≢true (sym k ∙ z))) (λ z. absurd (false≢true z))
@@ -197,16 +197,16 @@ module _ {first : Board} {log : List ℕ} {n : ℕ} {old : List ℕ} {kit : Kit}
 
     pub room-asked : (k : ℕ) → k < 8 → Room (getD (kept .ptcs) k freshPtc)
     room-asked k h =
-        room-at (look .turn .holder) (clock .crossings) (kept .ptcs) k crossing-room (sound-parts now (fit-at .sound) .eight) (rw ptcs-long h)
+        room-at (sight .turn .holder) (clock .crossings) (kept .ptcs) k crossing-room (sound-parts now (fit-at .sound) .eight) (rw ptcs-long h)
 
     pub clock-asked : ClockRoom clock
     clock-asked = clock-room now (fit-at .sound)
 
     pub next-asked : (24 * i + 24 ≤ length log)
         × (Coded (codesIn rec))
-        × (0 < i → isCrossing (recAt log (i - 1)) ≡ true → look .classes ≡ voted (kit .merger) (codesIn (recAt log (i - 1))) 40)
+        × (0 < i → isCrossing (recAt log (i - 1)) ≡ true → sight .classes ≡ voted (kit .merger) (codesIn (recAt log (i - 1))) 40)
         × (SlotRoom (kit .slots))
-        × (look .turn .holder ≤ 8)
+        × (sight .turn .holder ≤ 8)
     next-asked =
         let s = turn-asked now kit own-at (fit-at .sound) in
         (omega (arith, t .less, t .long), coded-at, t .here .votes, s .0, s .1)
@@ -214,30 +214,30 @@ module _ {first : Board} {log : List ℕ} {n : ℕ} {old : List ℕ} {kit : Kit}
     pub rules-asked : Sensible (kit .rules)
     rules-asked = scene-asked now kit own-at (fit-at .sound) .2
 
-    module _ (seen : Look) (looks : seen ≡ lookOf (kit .plan .at) (kit .merger) (kit .slots) clock (look .turn) (calm && sameBefore log i) rec)
+    module _ (seen : Sight) (looks : seen ≡ sightOf (kit .plan .at) (kit .merger) (kit .slots) clock (sight .turn) (calm && sameBefore log i) rec)
         (scene : Scene) (sees : scene ≡ sceneFor (kit .plan) (kit .rules) (kit .blocks) (getD (kept .ptcs) (seen .turn .holder % 8) freshPtc) seen (kept .marks) clock) where
       votes-at : seen .classes ≡ voted (kit .merger) (codesIn rec) 40
-      unfolding lookOf
-      votes-at = ap (λ (l : Look). l .classes) looks
+      unfolding sightOf
+      votes-at = ap (λ (l : Sight). l .classes) looks
 
       requests-at : seen .requests ≡ getD rec 2 0
-      unfolding lookOf
-      requests-at = ap (λ (l : Look). l .requests) looks
+      unfolding sightOf
+      requests-at = ap (λ (l : Sight). l .requests) looks
 
       marker-at : seen .marker ≡ markerIn rec
-      unfolding lookOf
-      marker-at = ap (λ (l : Look). l .marker) looks
+      unfolding sightOf
+      marker-at = ap (λ (l : Sight). l .marker) looks
 
       turn-at : seen .turn ≡ turnIn now (markerIn rec)
-      unfolding lookOf
-      turn-at = turn-is now rec kit own-at _ _ refl (ap (λ (l : Look). l .turn) looks)
+      unfolding sightOf
+      turn-at = turn-is now rec kit own-at _ _ refl (ap (λ (l : Sight). l .turn) looks)
 
       classes-at : seen .classes ≡ classes (kept .settings) (codesIn rec)
       classes-at = classes-is now rec kit own-at _ coded-at votes-at
 
       due-at : seen .due ≡ dueOf (calm && sameBefore log i) (kit .plan .at) (numberOf clock (seen .marker)) (seen .requests)
-      unfolding lookOf
-      due-at = ap (λ (l : Look). l .due) looks ∙ rw (marker-at, requests-at)
+      unfolding sightOf
+      due-at = ap (λ (l : Sight). l .due) looks ∙ rw (marker-at, requests-at)
 
       pub due-fits : seen .due < 256
       due-fits = rw (due-at) (due-low _ _ _ (seen .requests) (rw requests-at (rec-bytes log i 2 long-at (t .bytes))))
@@ -252,7 +252,7 @@ module _ {first : Board} {log : List ℕ} {n : ℕ} {old : List ℕ} {kit : Kit}
           let p = passes _ _ _ _ j h (rw due-at at e) in
           let w = both calm (sameBefore log i) (p .rests) in
           let c = t .here .still (w .0) in
-          let same : look .classes ≡ seen .classes = same-votes (kit .merger) (look .classes) log i (next-asked .0) (t .here .votes) (w .1) ∙ sym votes-at in
+          let same : sight .classes ≡ seen .classes = same-votes (kit .merger) (sight .classes) log i (next-asked .0) (t .here .votes) (w .1) ∙ sym votes-at in
           let rests = rw same at (c .rests j h) in
           record { rests = rests; shows = c .shows j h; stays = passed-over _ _ _ _ j _ rests (rw number-at (p .plain)) (p .silent) }
 

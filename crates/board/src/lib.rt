@@ -10,7 +10,7 @@ use ptc::Ptc;
 use records::RECORD;
 use records::ROW;
 use settings::Settings;
-use still::Look;
+use still::Sight;
 ghost use mathlib.Core.Path.{_≡_};
 ghost use mathlib.Core.Bool.{true};
 ghost use mathlib.Core.List.{_++_};
@@ -97,7 +97,7 @@ impl Board {
     {
         let kit = Kit::of(self.settings);
         let mut clock = self.clock;
-        let mut look = Look::first(self.turn);
+        let mut sight = Sight::first(self.turn);
         let mut shown = [0u8; 8];
         let mut calm = false;
         let mut i: usize = 0;
@@ -113,22 +113,22 @@ impl Board {
                 i += 1;
                 continue;
             }
-            let next = look.next(kit.plan.at, kit.merger, &kit.slots, clock, calm, log, i);
-            look = next;
-            let classes = look.classes;
-            let holder = self.ptcs[(look.turn.holder % 8) as usize];
+            let next = sight.next(kit.plan.at, kit.merger, &kit.slots, clock, calm, log, i);
+            sight = next;
+            let classes = sight.classes;
+            let holder = self.ptcs[(sight.turn.holder % 8) as usize];
             let scene = still::scene(
                 kit.plan,
                 kit.rules,
                 kit.blocks,
                 holder,
-                look,
+                sight,
                 &self.marks,
                 clock,
             );
             let mut bytes = [0u8; 8];
             calm = true;
-            let mut k = still::next_due(look.due, 0);
+            let mut k = still::next_due(sight.due, 0);
             while k < 8 {
                 let p = self.ptcs[k];
                 let o = p.crossed(
@@ -136,26 +136,26 @@ impl Board {
                     scene,
                     k as u32,
                     classes[k],
-                    records::asked(look.requests, k),
+                    records::asked(sight.requests, k),
                 );
                 let q = o.ptc;
                 bytes[k] = records::row_byte(o.code, o.sent, o.cal);
                 shown[k] = states::status(q.state);
                 calm = plain::both(calm, q.is_at_rest(classes[k]));
                 self.ptcs[k] = q;
-                k = still::next_due(look.due, k + 1);
+                k = still::next_due(sight.due, k + 1);
             }
             throttle::pass(
                 &mut self.marks,
                 clock.crossings,
                 plain::one(records::carries(bytes)),
             );
-            clock = eight::clock_after(clock, kit.orbit, look.marker, bytes);
+            clock = eight::clock_after(clock, kit.orbit, sight.marker, bytes);
             records::put_row(&mut rows[ROW * i..], records::crossing_row(bytes, shown));
             i += 1;
         }
         self.clock = clock;
-        let turn = look.turn;
+        let turn = sight.turn;
         self.turn = turn;
         self
     }

@@ -18,7 +18,7 @@ use Rattle.board.specs.Block.{RanOut, answerOf, blockOf}
 use Rattle.board.proofs.Answers.{block-ready}
 use Rattle.board.proofs.Keeps.{Fit, fresh-fit, ran-fit}
 use Rattle.replay.specs.Replay.{openedOf, inBlocks}
-use Rattle.cut.proofs.Accepted.{accepted}
+use Rattle.pieces.proofs.Unbuffered.{accepted}
 
 block-fit : (b : Board) (log rows : List ℕ) → Fit b → Fit (blockOf b log rows .board)
 unfolding blockOf

@@ -13,14 +13,20 @@ use lib.Seq.{take-append-le, drop-append-le, take-at, drop-at, drop-drop}
 use Rattle.laws.specs.Base.{if}
 use Rattle.laws.proofs.Bools.{if-has}
 use Rattle.laws.proofs.Tests.{either}
-use Rattle.answer.specs.Told.{Told, succeeded, DONE}
+use Rattle.answer.specs.Told.{Told, succeeded, DONE, BOARD}
 use Rattle.records.specs.Refusal.{recordsIn, refusalOf}
+use Rattle.records.proofs.Laws.{Settles, settles as settling, refusal-settles}
 use Rattle.board.specs.declared.Board.{Board}
 use Rattle.board.specs.Run.{ran, rowsOf}
+use Rattle.board.specs.Sound.{soundBoard}
 use Rattle.board.specs.Block.{RanOut, answerOf, blockOf}
 use Rattle.board.proofs.Keeps.{ran-ptcs-long, rows-long}
 use Rattle.replay.specs.Replay.{blocksIn, blockAt, laidOn, inBlocks}
-use Rattle.cut.proofs.Accepted.{Settles, accepted}
+
+-- a block that succeeds has no other answer than DONE
+pub accepted : (b : Board) (log : List ℕ) (room : ℕ) → Settles (answerOf b log room)
+unfolding answerOf
+accepted b log room = settling (soundBoard b) _ BOARD refl (refusal-settles _ log room)
 
 -- ---- one outcome after another
 

@@ -25,8 +25,8 @@ use Rattle.ptc.specs.Fresh.{freshPtc}
 use Rattle.ptc.proofs.Rest.{unasked-scene, moved-scene}
 use Rattle.records.specs.Records.{askedIn}
 use Rattle.eight.specs.Eight.{actOf}
-use Rattle.still.specs.declared.Look.{Look}
-use Rattle.still.specs.support.Look.{sceneFor}
+use Rattle.still.specs.declared.Sight.{Sight}
+use Rattle.still.specs.support.Sight.{sceneFor}
 
 -- either limit, by the state
 by-state : (f : Bool → Bool) (s : ℕ) → if (eqb s WARN) (f (eqb s WARN)) (f (eqb s WARN)) ≡ if (eqb s WARN) (f true) (f false)
@@ -36,18 +36,18 @@ neither : (a b : Bool) → a || b ≡ false → (a ≡ false) × (b ≡ false)
 neither true b e = absurd (false≢true (sym e))
 neither false b e = (refl, e)
 
-module _ (plan : Plan) (rules : Rules) (blocks : Bool) (look : Look) (marks : List ℕ) (clock : Clock) (ps : List Ptc) where
+module _ (plan : Plan) (rules : Rules) (blocks : Bool) (sight : Sight) (marks : List ℕ) (clock : Clock) (ps : List Ptc) where
   abbrev holding : Ptc
-  holding = getD ps (look .turn .holder % 8) freshPtc
+  holding = getD ps (sight .turn .holder % 8) freshPtc
 
   abbrev seen : Scene
-  seen = sceneFor plan rules blocks holding look marks clock
+  seen = sceneFor plan rules blocks holding sight marks clock
 
   -- the whole throttle
   abbrev pub wholeScene : Scene
   wholeScene = record {
-    number = numberOf clock (look .marker);
-    holder = look .turn .holder;
+    number = numberOf clock (sight .marker);
+    holder = sight .turn .holder;
     norm = free rules blocks marks (clock .crossings) false;
     low = free rules blocks marks (clock .crossings) true;
   }
@@ -61,21 +61,21 @@ module _ (plan : Plan) (rules : Rules) (blocks : Bool) (look : Look) (marks : Li
   holders = refl
 
   asks : Bool
-  asks = askedIn (look .requests) (look .turn .holder % 8) || not (eqb (holding .cycle) 0)
+  asks = askedIn (sight .requests) (sight .turn .holder % 8) || not (eqb (holding .cycle) 0)
 
   -- the holder's own
   abbrev movesTo : ℕ → ℕ
   movesTo k =
-      movedOf (plan .at) (plan .waits) k (numberOf clock (look .marker)) (getD (look .classes) k 0) (getD ps k freshPtc .state) (getD ps k freshPtc .wait) .state
+      movedOf (plan .at) (plan .waits) k (numberOf clock (sight .marker)) (getD (sight .classes) k 0) (getD ps k freshPtc .state) (getD ps k freshPtc .wait) .state
 
-  own-free : (k : ℕ) → k ≡ look .turn .holder → k < 8 → asks ≡ true → freeIn seen (movesTo k) ≡ freeIn wholeScene (movesTo k)
+  own-free : (k : ℕ) → k ≡ sight .turn .holder → k < 8 → asks ≡ true → freeIn seen (movesTo k) ≡ freeIn wholeScene (movesTo k)
   unfolding sceneFor asks
   own-free k e h a =
       let z : k % 8 ≡ k = omega arith in
       let asked = rw (← e, z) at a in
       rw (← e, z, asked) (by-state (λ w. free rules blocks marks (clock .crossings) w) (movesTo k))
 
-  idle : (k : ℕ) → k ≡ look .turn .holder → k < 8 → asks ≡ false → (askedIn (look .requests) k ≡ false) × (getD ps k freshPtc .cycle ≡ 0)
+  idle : (k : ℕ) → k ≡ sight .turn .holder → k < 8 → asks ≡ false → (askedIn (sight .requests) k ≡ false) × (getD ps k freshPtc .cycle ≡ 0)
   unfolding asks
   idle k e h a =
       let z : k % 8 ≡ k = omega arith in
@@ -83,15 +83,15 @@ module _ (plan : Plan) (rules : Rules) (blocks : Bool) (look : Look) (marks : Li
       (n .0, eqb-true _ _ (not-false _ (n .1)))
 
   pub scene-seen : (k : ℕ) → k < 8
-      → actOf plan seen (look .classes) (look .requests) k (getD ps k freshPtc)
-      ≡ actOf plan wholeScene (look .classes) (look .requests) k (getD ps k freshPtc)
+      → actOf plan seen (sight .classes) (sight .requests) k (getD ps k freshPtc)
+      ≡ actOf plan wholeScene (sight .classes) (sight .requests) k (getD ps k freshPtc)
   unfolding actOf sceneFor
   scene-seen k h =
       ⊎-elim
-      (λ (e : k ≡ look .turn .holder).
+      (λ (e : k ≡ sight .turn .holder).
       ⊎-elim
-      (λ (t : asks ≡ true). moved-scene plan seen wholeScene k (getD (look .classes) k 0) _ (getD ps k freshPtc) numbers holders (own-free k e h t))
+      (λ (t : asks ≡ true). moved-scene plan seen wholeScene k (getD (sight .classes) k 0) _ (getD ps k freshPtc) numbers holders (own-free k e h t))
       (λ (f : asks ≡ false). unasked-scene plan seen wholeScene k _ _ _ numbers holders (inr (idle k e h f)))
       (either asks))
-      (λ (n : k ≡ look .turn .holder → ⊥). unasked-scene plan seen wholeScene k _ _ _ numbers holders (inl (ne-eqb k _ n)))
-      (same-or-not k (look .turn .holder))
+      (λ (n : k ≡ sight .turn .holder → ⊥). unasked-scene plan seen wholeScene k _ _ _ numbers holders (inl (ne-eqb k _ n)))
+      (same-or-not k (sight .turn .holder))

@@ -21,10 +21,10 @@ ghost use Rattle.clock.specs.support.Room.{SlotRoom};
 ghost use Rattle.states.specs.Moves.{movedOf};
 ghost use Rattle.records.specs.Records.{recAt, isCrossing, codesIn, askedIn};
 ghost use Rattle.still.specs.support.Still.{plainNumber, sameBefore, dueOf, nextDue};
-ghost use Rattle.still.specs.support.Look.{lookOf, sceneFor, firstLook};
+ghost use Rattle.still.specs.support.Sight.{sightOf, sceneFor, firstSight};
 
 // What is told from one record to the next, and what this crossing brings.
-pub struct Look {
+pub struct Sight {
     pub turn: Turn,
     pub classes: [u8; 8],
     pub marker: bool,
@@ -90,12 +90,12 @@ fn classes_at(merger: Merger, before: [u8; 8], same: bool, log: &[u8], i: usize)
     merger.merge(&log[RECORD * i + 3..RECORD * i + RECORD])
 }
 
-impl Look {
+impl Sight {
     // Before the first record.
-    pub fn first(turn: Turn) -> Look
-        ensures { λ r. ⌜ r ≡ firstLook turn ⌝ }
+    pub fn first(turn: Turn) -> Sight
+        ensures { λ r. ⌜ r ≡ firstSight turn ⌝ }
     {
-        Look {
+        Sight {
             turn: turn,
             classes: [0u8; 8],
             marker: false,
@@ -104,7 +104,7 @@ impl Look {
         }
     }
 
-    // The look at record i, a crossing. Whether all eight are at rest under the classes before it is told.
+    // What record i, a crossing, brings. Whether all eight are at rest under the classes before it is told.
     pub fn next(
         self,
         at: Schedule,
@@ -114,9 +114,9 @@ impl Look {
         calm: bool,
         log: &[u8],
         i: usize,
-    ) -> Look
+    ) -> Sight
         requires { ⌜ (24 * i + 24 ≤ length (now log)) × (Coded (codesIn (recAt (now log) i))) × (0 < i → isCrossing (recAt (now log) (i - 1)) ≡ true → self .classes ≡ voted merger (codesIn (recAt (now log) (i - 1))) 40) × (SlotRoom (now slots)) × (self .turn .holder ≤ 8) ⌝ }
-        ensures { λ r. ⌜ r ≡ lookOf at merger (now (slots .entry)) clock (self .turn) (calm && sameBefore (now (log .entry)) i) (recAt (now (log .entry)) i) ⌝ }
+        ensures { λ r. ⌜ r ≡ sightOf at merger (now (slots .entry)) clock (self .turn) (calm && sameBefore (now (log .entry)) i) (recAt (now (log .entry)) i) ⌝ }
     {
         let marker = log[RECORD * i + 1] == 1;
         let requests = log[RECORD * i + 2];
@@ -125,7 +125,7 @@ impl Look {
         let classes = classes_at(merger, before, same, log, i);
         let turn = self.turn.turned(slots, clock.ends_orbit(marker));
         let number = clock.number(marker);
-        Look {
+        Sight {
             turn: turn,
             classes: classes,
             marker: marker,
@@ -159,19 +159,19 @@ pub fn scene(
     rules: Rules,
     blocks: bool,
     p: Ptc,
-    look: Look,
+    sight: Sight,
     marks: &[u64; 32],
     clock: Clock,
 ) -> Scene
     requires { ⌜ Sensible rules ⌝ }
-    ensures { λ r. ⌜ r ≡ sceneFor plan rules blocks p look (now (marks .entry)) clock ⌝ }
+    ensures { λ r. ⌜ r ≡ sceneFor plan rules blocks p sight (now (marks .entry)) clock ⌝ }
 {
-    let number = clock.number(look.marker);
-    let holder = look.turn.holder;
+    let number = clock.number(sight.marker);
+    let holder = sight.turn.holder;
     let mut free = false;
-    if asks(p, holder, look.requests) {
+    if asks(p, holder, sight.requests) {
         let h = (holder % 8) as usize;
-        let warn = is_warned(p, plan, number, holder, look.classes[h]);
+        let warn = is_warned(p, plan, number, holder, sight.classes[h]);
         free = throttle::free(marks, rules, blocks, clock.crossings, warn);
     }
     Scene {

@@ -16,25 +16,25 @@ use Rattle.ptc.specs.declared.Ptc.{Ptc}
 use Rattle.ptc.specs.declared.Plan.{Plan}
 use Rattle.ptc.specs.declared.Scene.{Scene}
 use Rattle.records.specs.Records.{askedIn}
-use Rattle.still.specs.declared.Look.{Look}
-use Rattle.still.specs.support.Look.{sceneFor}
+use Rattle.still.specs.declared.Sight.{Sight}
+use Rattle.still.specs.support.Sight.{sceneFor}
 use Rattle.still.proofs.scene.Statement.{statement}
 use Rattle.still.proofs.scene.Tie as tie
 
-module _ (plan : Plan) (rules : Rules) (blocks : Bool) (p : Ptc) (look : Look) (marks : List ℕ) (clock : Clock) (number : ℕ) where
+module _ (plan : Plan) (rules : Rules) (blocks : Bool) (p : Ptc) (sight : Sight) (marks : List ℕ) (clock : Clock) (number : ℕ) where
   abbrev asks : Bool
-  asks = askedIn (look .requests) (look .turn .holder % 8) || not (eqb (p .cycle) 0)
+  asks = askedIn (sight .requests) (sight .turn .holder % 8) || not (eqb (p .cycle) 0)
 
   abbrev seeing : Bool → Scene
-  seeing now = record { number = number; holder = look .turn .holder; norm = now; low = now }
+  seeing now = record { number = number; holder = sight .turn .holder; norm = now; low = now }
 
-  asked-is : (warn now : Bool) → number ≡ numberOf clock (look .marker) → asks ≡ true
-      → warn ≡ eqb (movedOf (plan .at) (plan .waits) (look .turn .holder) number (getD (look .classes) (look .turn .holder % 8) 0) (p .state) (p .wait) .state) 8
-      → now ≡ free rules blocks marks (clock .crossings) warn → seeing now ≡ sceneFor plan rules blocks p look marks clock
+  asked-is : (warn now : Bool) → number ≡ numberOf clock (sight .marker) → asks ≡ true
+      → warn ≡ eqb (movedOf (plan .at) (plan .waits) (sight .turn .holder) number (getD (sight .classes) (sight .turn .holder % 8) 0) (p .state) (p .wait) .state) 8
+      → now ≡ free rules blocks marks (clock .crossings) warn → seeing now ≡ sceneFor plan rules blocks p sight marks clock
   unfolding sceneFor
   asked-is warn now n a w f = rw (f, w, n, a)
 
-  idle-is : number ≡ numberOf clock (look .marker) → asks ≡ false → seeing false ≡ sceneFor plan rules blocks p look marks clock
+  idle-is : number ≡ numberOf clock (sight .marker) → asks ≡ false → seeing false ≡ sceneFor plan rules blocks p sight marks clock
   unfolding sceneFor
   idle-is n a = rw (n, a)
 

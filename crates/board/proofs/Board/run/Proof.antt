@@ -26,19 +26,19 @@ use Rattle.board.proofs.Board.run.Statement.{statement}
 use Rattle.board.proofs.Board.run.Tie as tie
 
 abbrev Inv-loop2 : tie.InvT-loop2
-Inv-loop2 log n rows self₀ kit clock look shown₀ calm₀ i classes scene bytes₀ k₀ self shown calm bytes k =
+Inv-loop2 log n rows self₀ kit clock sight shown₀ calm₀ i classes scene bytes₀ k₀ self shown calm bytes k =
     (self ≡ withPtcs self₀ (self .ptcs))
-    × (Acting (kit .plan) scene (look .classes) (look .requests) (look .due) (self₀ .ptcs) shown₀ k (self .ptcs) bytes shown calm)
+    × (Acting (kit .plan) scene (sight .classes) (sight .requests) (sight .due) (self₀ .ptcs) shown₀ k (self .ptcs) bytes shown calm)
 
 abbrev μ-loop2 : tie.MeasureT-loop2
-μ-loop2 log n rows self₀ kit clock look shown₀ calm₀ i classes scene bytes₀ k₀ self shown calm bytes k = 8 - k
+μ-loop2 log n rows self₀ kit clock sight shown₀ calm₀ i classes scene bytes₀ k₀ self shown calm bytes k = 8 - k
 
 abbrev Inv-loop : tie.InvT-loop
-Inv-loop log n rows₀ self₀ kit clock₀ look₀ shown₀ calm₀ i₀ rows self clock look shown calm i =
-    Stands self₀ log n rows₀ kit rows self clock look shown calm i
+Inv-loop log n rows₀ self₀ kit clock₀ sight₀ shown₀ calm₀ i₀ rows self clock sight shown calm i =
+    Stands self₀ log n rows₀ kit rows self clock sight shown calm i
 
 abbrev μ-loop : tie.MeasureT-loop
-μ-loop log n rows₀ self₀ kit clock₀ look₀ shown₀ calm₀ i₀ rows self clock look shown calm i = n - i
+μ-loop log n rows₀ self₀ kit clock₀ sight₀ shown₀ calm₀ i₀ rows self clock sight shown calm i = n - i
 
 -- ---- the ways back: to the turn's begin, to where the record was found a crossing, and to where it was looked at
 
@@ -68,7 +68,7 @@ fit c = record { ptcs = search (needs, mapped-long); marks = search needs; sound
 begun : (c : tie.In-loop Inv-loop2 μ-loop2 Inv-loop μ-loop) →
     let a = start c .args in
     let l = c .before .loop in
-    Begun (a .t1) (a .log .now) (a .n) (a .rows .now) (c .before .before .before .before .before .of .result) (l .rows) (l .self) (l .clock) (l .look) (l .shown) (l .calm) (l .i)
+    Begun (a .t1) (a .log .now) (a .n) (a .rows .now) (c .before .before .before .before .before .of .result) (l .rows) (l .self) (l .clock) (l .sight) (l .shown) (l .calm) (l .i)
 begun c =
     let s = start c in
     record {

@@ -1,4 +1,4 @@
--- `still::Look::next` meets its contract: the calls' answers, put together.
+-- `still::Sight::next` meets its contract: the calls' answers, put together.
 -- The same codes have the same votes, so those of the crossing before may be taken.
 use mathlib.Core.Path.{_≡_, sym, _∙_}
 use mathlib.Core.Bool.{Bool, _&&_}
@@ -17,21 +17,21 @@ use Rattle.clock.specs.Clock.{numberOf, orbitEnds}
 use Rattle.clock.specs.Turn.{turnedOf}
 use Rattle.records.specs.Records.{recAt, codesIn}
 use Rattle.records.proofs.Laws.{rec-byte}
-use Rattle.still.specs.declared.Look.{Look}
+use Rattle.still.specs.declared.Sight.{Sight}
 use Rattle.still.specs.support.Still.{sameBefore, dueOf}
-use Rattle.still.specs.support.Look.{lookOf}
+use Rattle.still.specs.support.Sight.{sightOf}
 use Rattle.still.proofs.Passing.{same-votes}
-use Rattle.still.proofs.Look.next.Statement.{statement}
-use Rattle.still.proofs.Look.next.Tie as tie
+use Rattle.still.proofs.Sight.next.Statement.{statement}
+use Rattle.still.proofs.Sight.next.Tie as tie
 
-look-is : (at : Schedule) (merger : Merger) (slots : List ℕ) (clock : Clock) (old : Turn) (log : List ℕ) (i : ℕ) (calm : Bool) (turn : Turn) (classes : List ℕ) (same still ends : Bool) (number due : ℕ)
+sight-is : (at : Schedule) (merger : Merger) (slots : List ℕ) (clock : Clock) (old : Turn) (log : List ℕ) (i : ℕ) (calm : Bool) (turn : Turn) (classes : List ℕ) (same still ends : Bool) (number due : ℕ)
     → same ≡ sameBefore log i → classes ≡ voted merger (codesIn (recAt log i)) 40 → ends ≡ orbitEnds clock (eqb (getD log (24 * i + 1) 0) 1)
     → turn ≡ turnedOf slots ends old → number ≡ numberOf clock (eqb (getD log (24 * i + 1) 0) 1) → still ≡ (calm && same)
     → due ≡ dueOf still at number (getD log (24 * i + 2) 0)
-    → _≡_ {A = Look} (record { turn = turn; classes = classes; marker = eqb (getD log (24 * i + 1) 0) 1; requests = getD log (24 * i + 2) 0; due = due })
-    (lookOf at merger slots clock old (calm && sameBefore log i) (recAt log i))
-unfolding lookOf
-look-is at merger slots clock old log i calm turn classes same still ends number due s c e t n f d =
+    → _≡_ {A = Sight} (record { turn = turn; classes = classes; marker = eqb (getD log (24 * i + 1) 0) 1; requests = getD log (24 * i + 2) 0; due = due })
+    (sightOf at merger slots clock old (calm && sameBefore log i) (recAt log i))
+unfolding sightOf
+sight-is at merger slots clock old log i calm turn classes same still ends number due s c e t n f d =
     let marker = rec-byte log i 1 (omega arith) in
     let requests = rec-byte log i 2 (omega arith) in
     rw (d, f, s, n, t, e, c, ← marker, ← requests)
@@ -84,7 +84,7 @@ returns c =
     let k = t .before .before in
     let r = k .before .before in
     let a = r .before .before .before .before .args in
-    look-is (a .at) (a .merger) (a .slots .now) (a .clock) (a .self .turn) (a .log .now) (a .i) (a .calm) _ _ _ _ _ _ _ (r .repeats-crossing .ensures) (k .classes-at .ensures)
+    sight-is (a .at) (a .merger) (a .slots .now) (a .clock) (a .self .turn) (a .log .now) (a .i) (a .calm) _ _ _ _ _ _ _ (r .repeats-crossing .ensures) (k .classes-at .ensures)
     (t .before .ends-orbit .ensures) (t .turned .ensures) (c .before .before .number .ensures) (c .before .both .ensures) (c .due .ensures)
 
 pub next-spec : {M : Type 1} → statement M

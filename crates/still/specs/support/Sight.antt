@@ -19,14 +19,14 @@ use Rattle.ptc.specs.declared.Ptc.{Ptc}
 use Rattle.ptc.specs.declared.Plan.{Plan}
 use Rattle.ptc.specs.declared.Scene.{Scene}
 use Rattle.records.specs.Records.{markerIn, askedIn, codesIn}
-use Rattle.still.specs.declared.Look.{Look}
+use Rattle.still.specs.declared.Sight.{Sight}
 use Rattle.still.specs.support.Still.{dueOf}
 
-abbrev pub firstLook : Turn → Look
-firstLook turn = record { turn = turn; classes = replicate 8 0; marker = false; requests = 0; due = 0 }
+abbrev pub firstSight : Turn → Sight
+firstSight turn = record { turn = turn; classes = replicate 8 0; marker = false; requests = 0; due = 0 }
 
-unfoldable pub lookOf : (at : Schedule) (merger : Merger) (slots : List ℕ) (clock : Clock) (turn : Turn) (still : Bool) (rec : List ℕ) → Look
-lookOf at merger slots clock turn still rec =
+unfoldable pub sightOf : (at : Schedule) (merger : Merger) (slots : List ℕ) (clock : Clock) (turn : Turn) (still : Bool) (rec : List ℕ) → Sight
+sightOf at merger slots clock turn still rec =
     let marker = markerIn rec in
     record {
       turn = turnedOf slots (orbitEnds clock marker) turn;
@@ -37,12 +37,12 @@ lookOf at merger slots clock turn still rec =
     }
 
 -- what all eight see, p being the holder: where it asks, the rules by the limits of the state that it moves to
-unfoldable pub sceneFor : (plan : Plan) (rules : Rules) (blocks : Bool) (p : Ptc) (look : Look) (marks : List ℕ) (clock : Clock) → Scene
-sceneFor plan rules blocks p look marks clock =
-    let number = numberOf clock (look .marker) in
-    let holder = look .turn .holder in
+unfoldable pub sceneFor : (plan : Plan) (rules : Rules) (blocks : Bool) (p : Ptc) (sight : Sight) (marks : List ℕ) (clock : Clock) → Scene
+sceneFor plan rules blocks p sight marks clock =
+    let number = numberOf clock (sight .marker) in
+    let holder = sight .turn .holder in
     let place = holder % 8 in
-    let moved = movedOf (plan .at) (plan .waits) holder number (getD (look .classes) place 0) (p .state) (p .wait) in
-    let asks = askedIn (look .requests) place || not (eqb (p .cycle) 0) in
+    let moved = movedOf (plan .at) (plan .waits) holder number (getD (sight .classes) place 0) (p .state) (p .wait) in
+    let asks = askedIn (sight .requests) place || not (eqb (p .cycle) 0) in
     let now = asks && free rules blocks marks (clock .crossings) (eqb (moved .state) WARN) in
     record { number = number; holder = holder; norm = now; low = now }
