@@ -2,36 +2,29 @@
 -- The kit holds what the settings say, so each answer is the definition's; bytes of a record are codes.
 use mathlib.Core.Path.{_≡_, _∙_}
 use mathlib.Core.Bool.{Bool, true}
-use mathlib.Core.List.{List, _++_}
+use mathlib.Core.List.{List}
 use Prim.Native.Nat.{ℕ, _≤_, _<_}
 use native.Mathlib.Omega.{arith}
-use lib.ListN.{length, getD, drop, length-drop}
+use lib.ListN.{length, getD, length-drop}
 use lib.Seq.{getD-drop}
-use Rattle.laws.specs.Base.{mapI}
 use Rattle.settings.specs.Names.{orbitOf, rulesOf, warnBlocksOf}
 use Rattle.status.specs.Codes.{Coded}
 use Rattle.status.specs.Merge.{classes}
 use Rattle.status.specs.support.Merger.{voted}
 use Rattle.status.proofs.Laws.{one-pass}
 use Rattle.throttle.specs.Rules.{Sensible}
-use Rattle.clock.specs.declared.Clock.{Clock}
 use Rattle.clock.specs.declared.Turn.{Turn}
-use Rattle.clock.specs.Clock.{numberOf, orbitEnds}
+use Rattle.clock.specs.Clock.{orbitEnds}
 use Rattle.clock.specs.Turn.{turnedOf}
 use Rattle.clock.specs.support.Room.{ClockRoom, SlotRoom}
 use Rattle.clock.proofs.Keeps.{clock-roomy, holder-most}
-use Rattle.ptc.specs.declared.Ptc.{Ptc}
-use Rattle.ptc.specs.declared.Plan.{Plan}
-use Rattle.ptc.specs.declared.Scene.{Scene}
 use Rattle.records.specs.Records.{well, markerIn, codesIn}
-use Rattle.records.specs.Rows.{carries, crossingRow}
 use Rattle.records.specs.Refusal.{LIFETIME}
 use Rattle.records.proofs.Laws.{code-low}
 use Rattle.board.specs.declared.Board.{Board}
 use Rattle.kit.specs.declared.Kit.{Kit}
 use Rattle.kit.specs.support.Laid.{kitOf}
-use Rattle.board.specs.Crossing.{withPtcs, turnIn, sceneAt, sceneOf, eight, passedOn, boardCrossed, rowCrossed}
-use Rattle.eight.specs.Eight.{ptcOf, byteOf, shownOf, clockOf}
+use Rattle.board.specs.Crossing.{turnIn}
 use Rattle.board.specs.Sound.{soundBoard}
 use Rattle.board.proofs.Settled.{sound-parts}
 use Rattle.kit.proofs.Settled.{slot-room, sensible, orbit-some}
@@ -46,7 +39,7 @@ coded rec long w bytes = record {
   bytes = λ n. rw (getD-drop 3 rec n 0) (bytes _);
 }
 
--- a status fits in a nibble
+-- a sound clock has room for one crossing more
 pub clock-room : (b : Board) → soundBoard b ≡ true → ClockRoom (b .clock)
 clock-room b e =
     let p = sound-parts b e in

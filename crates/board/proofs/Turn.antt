@@ -15,14 +15,12 @@ use Rattle.laws.specs.Base.{mapI, one, allB}
 use Rattle.laws.proofs.Bools.{both}
 use Rattle.laws.proofs.Over.{length-mapI, getD-mapI}
 use Rattle.laws.proofs.Maps.{map-is}
-use Rattle.settings.specs.Names.{waitsOf}
 use Rattle.status.specs.Codes.{Coded}
 use Rattle.status.specs.Merge.{classes}
 use Rattle.status.specs.support.Merger.{voted}
 use Rattle.throttle.specs.Marks.{passed}
 use Rattle.throttle.specs.Rules.{Sensible}
 use Rattle.clock.specs.declared.Clock.{Clock}
-use Rattle.clock.specs.declared.Turn.{Turn}
 use Rattle.clock.specs.Clock.{numberOf}
 use Rattle.clock.specs.support.Room.{ClockRoom, SlotRoom}
 use Rattle.states.specs.Names.{statusOf}
@@ -54,7 +52,6 @@ use Rattle.board.specs.declared.Board.{Board}
 use Rattle.board.specs.Crossing.{withPtcs, turnIn, sceneOf, eight, boardCrossed, rowCrossed}
 use Rattle.board.specs.Command.{commandIn, boardCommanded, rowCommanded}
 use Rattle.board.specs.Run.{stepped, rowOf, ran, rowsOf}
-use Rattle.board.specs.Sound.{soundBoard}
 use Rattle.board.specs.support.Loop.{settled}
 use Rattle.board.proofs.Settled.{sound-parts}
 use Rattle.board.proofs.Crossings.{coded, clock-room, turn-asked, scene-asked, turn-is, classes-is}

@@ -116,28 +116,15 @@ impl Board {
             let next = sight.next(kit.plan.at, kit.merger, &kit.slots, clock, calm, log, i);
             sight = next;
             let classes = sight.classes;
-            let holder = self.ptcs[(sight.turn.holder % 8) as usize];
-            let scene = still::scene(
-                kit.plan,
-                kit.rules,
-                kit.blocks,
-                holder,
-                sight,
-                &self.marks,
-                clock,
-            );
+            let h = self.ptcs[(sight.turn.holder % 8) as usize];
+            let scene = sight.scene(kit.plan, kit.rules, kit.blocks, h, &self.marks, clock);
             let mut bytes = [0u8; 8];
             calm = true;
             let mut k = still::next_due(sight.due, 0);
             while k < 8 {
                 let p = self.ptcs[k];
-                let o = p.crossed(
-                    kit.plan,
-                    scene,
-                    k as u32,
-                    classes[k],
-                    records::asked(sight.requests, k),
-                );
+                let asked = records::asked(sight.requests, k);
+                let o = p.crossed(kit.plan, scene, k as u32, classes[k], asked);
                 let q = o.ptc;
                 bytes[k] = records::row_byte(o.code, o.sent, o.cal);
                 shown[k] = states::status(q.state);
@@ -145,11 +132,8 @@ impl Board {
                 self.ptcs[k] = q;
                 k = still::next_due(sight.due, k + 1);
             }
-            throttle::pass(
-                &mut self.marks,
-                clock.crossings,
-                plain::one(records::carries(bytes)),
-            );
+            let mark = plain::one(records::carries(bytes));
+            throttle::pass(&mut self.marks, clock.crossings, mark);
             clock = eight::clock_after(clock, kit.orbit, sight.marker, bytes);
             records::put_row(&mut rows[ROW * i..], records::crossing_row(bytes, shown));
             i += 1;

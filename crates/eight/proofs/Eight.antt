@@ -19,9 +19,8 @@ use Rattle.ptc.specs.Crossing.{crossedOf}
 use Rattle.ptc.proofs.Keeps.{roomy}
 use Rattle.ptc.proofs.Triggers.{code-fits}
 use Rattle.records.specs.Records.{askedIn}
-use Rattle.records.specs.Rows.{rowByte}
 use Rattle.records.specs.Refusal.{LIFETIME}
-use Rattle.eight.specs.Eight.{actOf, byteOf, shownOf, soundAt, soundEight}
+use Rattle.eight.specs.Eight.{actOf, soundAt, soundEight}
 use Rattle.ptc.specs.Fresh.{freshPtc}
 use borrow.Author.Tests.{lt-ltb}
 use Rattle.laws.specs.Base.{allB, mapI}

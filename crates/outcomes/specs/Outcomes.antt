@@ -2,7 +2,6 @@
 -- `Post` is what the checker itself reads in the `ensures` of src/: an `ensures` that says less breaks the claim.
 use Prim.Native.Nat.{ℕ}
 use mathlib.Core.Path.{_≡_}
-use mathlib.Core.Bool.{Bool}
 use mathlib.Core.List.{List}
 use denote.Ref.{RefT, at-last}
 use contract.Lifetimes.{Lfts}

@@ -9,10 +9,9 @@ use native.Mathlib.Nat.{add-zero, zero-add, suc-add, zero-min, min-zero, suc-min
 use native.Mathlib.Numerals.{add-one}
 use native.Mathlib.Omega.{arith}
 use lib.ListN.{length, take, drop, length-take, length-drop}
-use lib.Seq.{length-take-le}
 use Rattle.laws.specs.Base.{if}
 use Rattle.laws.proofs.Bools.{if-has}
-use Rattle.laws.proofs.Tests.{either, lt-or-ge}
+use Rattle.laws.proofs.Tests.{lt-or-ge}
 use Rattle.answer.specs.Told.{Told, succeeded, DONE}
 use Rattle.records.specs.Records.{recAt, well, firstIll, crossingsIn}
 use Rattle.records.specs.Refusal.{LIFETIME, recordsIn, refusalOf, Ready}

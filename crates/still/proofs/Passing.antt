@@ -12,7 +12,6 @@ use lib.Count.{trailingZeros, under}
 use lib.Dec.{ltb, eqb}
 use lib.ListN.{length, getD, length-take, length-drop}
 use lib.Pow.{pow-mono, pow-add, shl-shr, shr-shr, shr-lt}
-use Rattle.laws.specs.Base.{if}
 use Rattle.laws.proofs.Bools.{both, if-has}
 use Rattle.laws.proofs.Tests.{either, same-or-not, lt-or-ge}
 use Rattle.settings.specs.declared.names.Schedule.{Schedule}

@@ -153,31 +153,34 @@ fn is_warned(p: Ptc, plan: Plan, number: u32, holder: u32, class: u8) -> bool
     step.state == 8
 }
 
-// What all eight see of a crossing. Only the holder, whose value p is, can send: so the rules are looked at only where it asks.
-pub fn scene(
-    plan: Plan,
-    rules: Rules,
-    blocks: bool,
-    p: Ptc,
-    sight: Sight,
-    marks: &[u64; 32],
-    clock: Clock,
-) -> Scene
-    requires { ⌜ Sensible rules ⌝ }
-    ensures { λ r. ⌜ r ≡ sceneFor plan rules blocks p sight (now (marks .entry)) clock ⌝ }
-{
-    let number = clock.number(sight.marker);
-    let holder = sight.turn.holder;
-    let mut free = false;
-    if asks(p, holder, sight.requests) {
-        let h = (holder % 8) as usize;
-        let warn = is_warned(p, plan, number, holder, sight.classes[h]);
-        free = throttle::free(marks, rules, blocks, clock.crossings, warn);
-    }
-    Scene {
-        number: number,
-        holder: holder,
-        norm: free,
-        low: free,
+impl Sight {
+    // What all eight see of a crossing. Only the holder, whose value p is, can send: so the rules are looked at only where it asks.
+    pub fn scene(
+        self,
+        plan: Plan,
+        rules: Rules,
+        blocks: bool,
+        p: Ptc,
+        marks: &[u64; 32],
+        clock: Clock,
+    ) -> Scene
+        requires { ⌜ Sensible rules ⌝ }
+        ensures { λ r. ⌜ r ≡ sceneFor plan rules blocks p self (now (marks .entry)) clock ⌝ }
+    {
+        let number = clock.number(self.marker);
+        let holder = self.turn.holder;
+        let mut free = false;
+        if asks(p, holder, self.requests) {
+            let h = (holder % 8) as usize;
+            let classes = self.classes;
+            let warn = is_warned(p, plan, number, holder, classes[h]);
+            free = throttle::free(marks, rules, blocks, clock.crossings, warn);
+        }
+        Scene {
+            number: number,
+            holder: holder,
+            norm: free,
+            low: free,
+        }
     }
 }

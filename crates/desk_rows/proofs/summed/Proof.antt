@@ -1,7 +1,6 @@
 -- `desk_rows::summed` is safe and ends: the sum is below 2^40 and the base below 2^24, so with a digit added it stays below 2^64.
 -- What is left of the rows is the measure.
 use Prim.Native.Nat.{_-_, _<_, _≤_}
-use native.Mathlib.Omega.{arith}
 use borrow.Author.Needs.{needs}
 use lib.ListN.{length}
 use Rattle.desk_rows.proofs.summed.Statement.{statement}

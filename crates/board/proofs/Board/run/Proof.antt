@@ -1,25 +1,23 @@
 -- `board::Board::run` meets its contract: before record i the state of the loop stands for the board after the records before it.
 -- A turn is the law of its path: a command, or a crossing whose eight were gone over as far as they are due.
-use mathlib.Core.Path.{_≡_, refl, ap, sym, _∙_}
+use mathlib.Core.Path.{_≡_, refl, ap, _∙_}
 use mathlib.Core.Bool.{true, false}
 use mathlib.Core.List.{List}
-use Prim.Native.Nat.{ℕ, _+_, _*_, _-_, _%_, _^_, _≤_, _<_}
+use Prim.Native.Nat.{ℕ, _+_, _*_, _-_, _^_, _≤_, _<_}
 use native.Mathlib.Omega.{arith}
 use borrow.Author.Needs.{needs}
-use lib.ListN.{length, getD, set, length-take, length-drop, length-set}
+use lib.ListN.{length, getD, length-take, length-drop}
 use Rattle.laws.proofs.Bools.{one-le}
 use Rattle.laws.proofs.Tests.{mapped-long}
 use Rattle.throttle.specs.Marks.{passed}
-use Rattle.ptc.specs.declared.Ptc.{Ptc}
 use Rattle.ptc.specs.Fresh.{freshPtc}
 use Rattle.records.specs.Records.{recAt, isCrossing, askedIn}
 use Rattle.eight.specs.Eight.{actOf}
 use Rattle.eight.proofs.Eight.{acted, acted-code}
-use Rattle.still.proofs.Passing.{next-after, next-most}
+use Rattle.still.proofs.Passing.{next-after}
 use Rattle.still.proofs.Acting.{Quiet, Acting, Acted, acting-first, acting-at, acting-next, acting-last}
 use Rattle.board.specs.declared.Board.{Board}
 use Rattle.board.specs.Crossing.{withPtcs}
-use Rattle.board.specs.Run.{ran, rowsOf}
 use Rattle.board.proofs.Keeps.{Fit}
 use Rattle.board.proofs.Turn.{Stands, Begun, stands-first, ptcs-long, crossing-kind, command-at, named, command-stands, crossing-room, clock-asked, next-asked, rules-asked, room-asked, due-fits, quiet-at, shown-fits, crossing-stands}
 use Rattle.board.proofs.Board.run.Statement.{statement}
@@ -132,7 +130,7 @@ told : (c : tie.After-crossed Inv-loop2 μ-loop2 Inv-loop μ-loop) →
     let l = acting c in
     let n = looking (seeing l) .next .result in
     c .crossed .result ≡ actOf (turn (seeing l) .before .before .before .before .before .of .result .plan) (seeing l .scene .result) (n .classes) (n .requests) (l .before .loop2 .k) (getD (l .before .loop2 .self .ptcs) (l .before .loop2 .k) freshPtc)
-told c = acted _ _ _ _ _ _ _ _ (c .before .asked .ensures) (c .crossed .ensures)
+told c = acted _ _ _ _ _ _ _ _ (c .before .before .asked .ensures) (c .crossed .ensures)
 
 acted-at : (c : tie.After-loop2 Inv-loop2 μ-loop2 Inv-loop μ-loop) →
     let s = c .before .before .before in
@@ -230,14 +228,14 @@ loop-again c =
 next-requires : tie.Need-next-requires Inv-loop2 μ-loop2 Inv-loop μ-loop
 next-requires c κs = next-asked (begun (c .before .before .before .before .before .before)) (crossed-at (c .before .before .before .before))
 
-cast-holder : tie.Need-cast-holder Inv-loop2 μ-loop2 Inv-loop μ-loop
-cast-holder c = search needs
+cast-h : tie.Need-cast-h Inv-loop2 μ-loop2 Inv-loop μ-loop
+cast-h c = search needs
 
-mul-holder : tie.Need-mul-holder Inv-loop2 μ-loop2 Inv-loop μ-loop
-mul-holder c = search needs
+mul-h : tie.Need-mul-h Inv-loop2 μ-loop2 Inv-loop μ-loop
+mul-h c = search needs
 
-element-copy-out-holder : tie.Need-element-copy-out-holder Inv-loop2 μ-loop2 Inv-loop μ-loop
-element-copy-out-holder c = search needs
+element-copy-out-h : tie.Need-element-copy-out-h Inv-loop2 μ-loop2 Inv-loop μ-loop
+element-copy-out-h c = search needs
 
 scene-requires : tie.Need-scene-requires Inv-loop2 μ-loop2 Inv-loop μ-loop
 scene-requires c κs = rules-asked (begun (c .before .before .before .before .before .before .before .before .before .before .before .before .before .before)) (crossed-at (c .before .before .before .before .before .before .before .before .before .before .before .before))
@@ -256,14 +254,14 @@ mul-p-2 c = search needs
 element-copy-out-p-2 : tie.Need-element-copy-out-p-2 Inv-loop2 μ-loop2 Inv-loop μ-loop
 element-copy-out-p-2 c = search needs
 
+asked-requires : tie.Need-asked-requires Inv-loop2 μ-loop2 Inv-loop μ-loop
+asked-requires c κs = search needs
+
 cast-crossed : tie.Need-cast-crossed Inv-loop2 μ-loop2 Inv-loop μ-loop
 cast-crossed c = search needs
 
 array-read-crossed : tie.Need-array-read-crossed Inv-loop2 μ-loop2 Inv-loop μ-loop
 array-read-crossed c = search needs
-
-asked-requires : tie.Need-asked-requires Inv-loop2 μ-loop2 Inv-loop μ-loop
-asked-requires c κs = search needs
 
 crossed-requires : tie.Need-crossed-requires Inv-loop2 μ-loop2 Inv-loop μ-loop
 crossed-requires c κs =
@@ -330,7 +328,7 @@ pass-requires : tie.Need-pass-requires Inv-loop2 μ-loop2 Inv-loop μ-loop
 pass-requires c κs =
     let l = c .before .before .before in
     let s = l .before .before .before in
-    omega (arith, c .one .ensures, one-le (c .before .carries .result), crossing-room (begun (turn s)) (crossed-at (crossing (looking s))))
+    omega (arith, c .before .one .ensures, one-le (c .before .before .carries .result), crossing-room (begun (turn s)) (crossed-at (crossing (looking s))))
 
 clock-after-requires : tie.Need-clock-after-requires Inv-loop2 μ-loop2 Inv-loop μ-loop
 clock-after-requires c κs =
@@ -370,7 +368,7 @@ loop-again-2 c =
     let s = l .before .before .before in
     let p = c .before .before .before .before .before .before in
     crossing-stands (begun (turn s)) (crossed-at (crossing (looking s))) _ (looking s .next .ensures) _ (s .scene .ensures) _ _ _ _ (acted-at l) _ _ _ _ _ _ _
-    (c .before .before .before .before .before .before .before .before .carries .ensures) (c .before .before .before .before .before .before .before .one .ensures) (p .pass .ensures ∙ ap (λ (b : Board). passed (b .marks) (turn s .before .loop .clock .crossings) (p .before .one .result)) (l .before .loop2 .inv .0))
+    (c .before .before .before .before .before .before .before .before .before .carries .ensures) (c .before .before .before .before .before .before .before .before .one .ensures) (p .pass .ensures ∙ ap (λ (b : Board). passed (b .marks) (turn s .before .loop .clock .crossings) (p .before .before .one .result)) (l .before .loop2 .inv .0))
     (c .before .before .before .before .before .clock-after .ensures) (ap (withMarks _) (l .before .loop2 .inv .0)) (c .before .before .before .crossing-row .ensures) (c .before .before .put-row2 .ensures)
 
 same-length : tie.Need-same-length Inv-loop2 μ-loop2 Inv-loop μ-loop
@@ -417,17 +415,17 @@ run-spec =
     loop-less
     loop-again
     next-requires
-    cast-holder
-    mul-holder
-    element-copy-out-holder
+    cast-h
+    mul-h
+    element-copy-out-h
     scene-requires
     next-due-requires
     loop2-holds
     mul-p-2
     element-copy-out-p-2
+    asked-requires
     cast-crossed
     array-read-crossed
-    asked-requires
     crossed-requires
     row-byte-requires
     array-write-bytes

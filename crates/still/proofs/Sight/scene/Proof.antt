@@ -1,4 +1,4 @@
--- `still::scene` meets its contract: a holder that asks is told by the rules, in the state after its move; any other is told nothing.
+-- `still::Sight::scene` meets its contract: a holder that asks is told by the rules, in the state after its move; any other is told nothing.
 -- The two ways are the two values of the definition's test.
 use mathlib.Core.Path.{_≡_, sym, _∙_}
 use mathlib.Core.Bool.{Bool, true, false, not, _||_}
@@ -18,8 +18,8 @@ use Rattle.ptc.specs.declared.Scene.{Scene}
 use Rattle.records.specs.Records.{askedIn}
 use Rattle.still.specs.declared.Sight.{Sight}
 use Rattle.still.specs.support.Sight.{sceneFor}
-use Rattle.still.proofs.scene.Statement.{statement}
-use Rattle.still.proofs.scene.Tie as tie
+use Rattle.still.proofs.Sight.scene.Statement.{statement}
+use Rattle.still.proofs.Sight.scene.Tie as tie
 
 module _ (plan : Plan) (rules : Rules) (blocks : Bool) (p : Ptc) (sight : Sight) (marks : List ℕ) (clock : Clock) (number : ℕ) where
   abbrev asks : Bool
@@ -47,8 +47,8 @@ asks-requires c κs = search needs
 cast-h : tie.Need-cast-h
 cast-h c = search needs
 
-element-copy-out-is-warned : tie.Need-element-copy-out-is-warned
-element-copy-out-is-warned c = search needs
+array-read-is-warned : tie.Need-array-read-is-warned
+array-read-is-warned c = search needs
 
 is-warned-requires : tie.Need-is-warned-requires
 is-warned-requires c κs = search needs
@@ -69,7 +69,7 @@ scene-spec =
     number-requires
     asks-requires
     cast-h
-    element-copy-out-is-warned
+    array-read-is-warned
     is-warned-requires
     free-requires
     returns
