@@ -1,0 +1,150 @@
+-- Laws of steady codes: each input by itself, well-formed codes stay so, and where carried and believed are the new codes nothing changes.
+-- The two nibbles of a byte are digits in base 16.
+use mathlib.Core.Path.{_≡_, refl, ap, sym, _∙_}
+use mathlib.Core.Logic.{⊎-elim}
+use mathlib.Core.Bool.{Bool, true, false}
+use mathlib.Core.List.{List, [], _∷_}
+use Prim.Native.Nat.{ℕ, _+_, _*_, _/_, _%_, _≤_, _<_}
+use native.Mathlib.Nat.{zero-add}
+use native.Mathlib.Omega.{arith}
+use borrow.Author.Tests.{eq-eqb, ne-eqb, lt-ltb, ltb-true}
+use lib.Dec.{eqb, ltb}
+use lib.ListN.{length, getD, List·getD-eq-default}
+use lib.Seq.{ext-getD}
+use Rattle.laws.specs.Base.{if, mapI}
+use Rattle.laws.proofs.Bools.{if-most, both, and-yes}
+use Rattle.laws.proofs.Tests.{either, lt-or-ge, same-or-not}
+use Rattle.laws.proofs.Over.{length-mapI, getD-mapI}
+use Rattle.status.specs.Codes.{codeAt, Coded}
+use Rattle.steady.specs.declared.Held.{Held}
+use Rattle.steady.specs.Steady.{steady, steadyByte, believedOf}
+use Rattle.steady.specs.Held.{nextHeld, freshHeld, soundHeld}
+
+-- a code that came twice is believed
+pub twice : (believed code : ℕ) → steady code believed code ≡ code
+unfolding steady
+twice believed code = rw (eq-eqb code code refl)
+
+-- a code that came once leaves the believed one
+pub once : (carried believed code : ℕ) → (carried ≡ code → ⊥) → steady carried believed code ≡ believed
+unfolding steady
+once carried believed code differs = rw (ne-eqb carried code differs)
+
+steady-low : (c b n m : ℕ) → b ≤ m → n ≤ m → steady c b n ≤ m
+unfolding steady
+steady-low c b n m p q = if-most (eqb c n) n b m q p
+
+pub byte-low : (c b n : ℕ) → steadyByte c b n % 16 ≡ steady (c % 16) (b % 16) (n % 16)
+unfolding steadyByte
+byte-low c b n = let h = steady-low (c % 16) (b % 16) (n % 16) 15 (omega arith) (omega arith) in omega arith
+
+pub byte-high : (c b n : ℕ) → steadyByte c b n / 16 ≡ steady (c / 16) (b / 16) (n / 16)
+unfolding steadyByte
+byte-high c b n = let h = steady-low (c % 16) (b % 16) (n % 16) 15 (omega arith) (omega arith) in omega arith
+
+byte-fits : (c b n : ℕ) → b < 256 → n < 256 → steadyByte c b n < 256
+unfolding steadyByte
+byte-fits c b n p q =
+    let h = steady-low (c % 16) (b % 16) (n % 16) 15 (omega arith) (omega arith) in
+    let g = steady-low (c / 16) (b / 16) (n / 16) 15 (omega arith) (omega arith) in
+    omega arith
+
+-- a byte with one code in it
+small : (c b n : ℕ) → c < 16 → b < 16 → n < 16 → steadyByte c b n ≡ steady c b n
+unfolding steadyByte
+small c b n p q r =
+    let x : (m : ℕ) → m < 16 → m % 16 ≡ m = λ m h. omega arith in
+    let y : (m : ℕ) → m < 16 → m / 16 ≡ 0 = λ m h. omega arith in
+    let z : steady 0 0 0 ≤ 0 = steady-low 0 0 0 0 (omega arith) (omega arith) in
+    rw (x c p, x b q, x n r, y c p, y b q, y n r) (omega arith)
+
+pub byte-same : (n : ℕ) → steadyByte n n n ≡ n
+unfolding steadyByte steady
+byte-same n = rw (eq-eqb (n % 16) (n % 16) refl, eq-eqb (n / 16) (n / 16) refl) (omega arith)
+
+module _ (carried believed codes : List ℕ) where
+  pub believed-long : length (believedOf carried believed codes) ≡ length believed
+  unfolding believedOf
+  believed-long = length-mapI _ 0 believed
+
+  pub believed-get : (k : ℕ) → k < length believed → getD (believedOf carried believed codes) k 0 ≡ steadyByte (getD carried k 0) (getD believed k 0) (getD codes k 0)
+  unfolding believedOf
+  believed-get k h = getD-mapI _ 0 k believed 0 0 h ∙ rw zero-add
+
+-- where carried and believed are the new codes
+pub firm : (codes : List ℕ) → believedOf codes codes codes ≡ codes
+firm codes =
+    ext-getD 0 (believedOf codes codes codes) codes (believed-long codes codes codes)
+    (λ k h. let p : k < length codes = rw (believed-long codes codes codes) at h in believed-get codes codes codes k p ∙ byte-same (getD codes k 0))
+
+pub held-firm : (h : Held) (codes : List ℕ) → h .carried ≡ codes → h .believed ≡ codes → nextHeld h codes ≡ h
+unfolding nextHeld
+held-firm h codes e f = rw (e, f, firm codes)
+
+first-low : (carried believed codes : List ℕ) → getD carried 0 0 < 16 → getD believed 0 0 < 16 → getD codes 0 0 < 16 → getD (believedOf carried believed codes) 0 0 < 16
+unfolding believedOf mapI
+first-low carried [] codes p q r = omega arith
+first-low carried (b ∷ l) codes p q r = rw (small _ _ _ p q r) (omega (arith, steady-low (getD carried 0 0) b (getD codes 0 0) 15 (omega arith) (omega arith)))
+
+-- well-formed codes
+module _ (carried believed codes : List ℕ) (c : Coded carried) (b : Coded believed) (n : Coded codes) where
+  long : length (believedOf carried believed codes) ≡ 21
+  long = believed-long carried believed codes ∙ b .long
+
+  at-byte : (k : ℕ) → k < 21 → getD (believedOf carried believed codes) k 0 ≡ steadyByte (getD carried k 0) (getD believed k 0) (getD codes k 0)
+  at-byte k h = believed-get carried believed codes k (omega (arith, b .long))
+
+  -- each input by itself
+  pub believed-code : (i : ℕ) → i < 41 → codeAt (believedOf carried believed codes) i ≡ steady (codeAt carried i) (codeAt believed i) (codeAt codes i)
+  unfolding codeAt
+  believed-code i h =
+      ⊎-elim
+      (λ (e : i ≡ 40). rw (eq-eqb i 40 e, at-byte 0 (omega arith)) (small (getD carried 0 0) (getD believed 0 0) (getD codes 0 0) (c .gtfe) (b .gtfe) (n .gtfe)))
+      (λ (e : i ≡ 40 → ⊥).
+      let p : 1 + i / 2 < 21 = omega arith in
+      ⊎-elim
+      (λ (t : eqb (i % 2) 0 ≡ true). rw (ne-eqb i 40 e, t, at-byte (1 + i / 2) p) (byte-low (getD carried (1 + i / 2) 0) (getD believed (1 + i / 2) 0) (getD codes (1 + i / 2) 0)))
+      (λ (t : eqb (i % 2) 0 ≡ false). rw (ne-eqb i 40 e, t, at-byte (1 + i / 2) p) (byte-high (getD carried (1 + i / 2) 0) (getD believed (1 + i / 2) 0) (getD codes (1 + i / 2) 0)))
+      (either (eqb (i % 2) 0)))
+      (same-or-not i 40)
+
+  pub believed-coded : Coded (believedOf carried believed codes)
+  believed-coded = record {
+    long = long;
+    gtfe =
+        rw (at-byte 0 (omega arith), small (getD carried 0 0) (getD believed 0 0) (getD codes 0 0) (c .gtfe) (b .gtfe) (n .gtfe))
+        (omega (arith, b .gtfe, n .gtfe, steady-low (getD carried 0 0) (getD believed 0 0) (getD codes 0 0) 15 (omega (arith, b .gtfe)) (omega (arith, n .gtfe))));
+    bytes =
+        λ k.
+        ⊎-elim
+        (λ (h : k < 21). rw (at-byte k h) (byte-fits (getD carried k 0) (getD believed k 0) (getD codes k 0) (b .bytes k) (n .bytes k)))
+        (λ (h : 21 ≤ k).
+        let z : length (believedOf carried believed codes) ≤ k = omega (arith, long) in
+        rw (List·getD-eq-default (believedOf carried believed codes) 0 z) (omega arith))
+        (lt-or-ge k 21);
+  }
+
+  -- by the codes of the last two crossings and the one believed before, and by nothing else
+  pub depends : (carried' believed' codes' : List ℕ) → Coded carried' → Coded believed' → Coded codes' → (i : ℕ) → i < 41
+      → codeAt carried i ≡ codeAt carried' i → codeAt believed i ≡ codeAt believed' i → codeAt codes i ≡ codeAt codes' i
+      → codeAt (believedOf carried believed codes) i ≡ codeAt (believedOf carried' believed' codes') i
+  depends carried' believed' codes' c' b' n' i h p q r =
+      believed-code i h ∙ rw (p, q, r) ∙ sym (believed-code carried' believed' codes' c' b' n' i h)
+
+-- the held codes of a sound board
+pub fresh-sound : soundHeld freshHeld ≡ true
+unfolding freshHeld soundHeld codeAt
+fresh-sound = refl
+
+module _ (h : Held) (sound : soundHeld h ≡ true) where
+  pub carried-low : getD (h .carried) 0 0 < 16
+  unfolding soundHeld codeAt
+  carried-low = ltb-true _ _ (both (ltb (getD (h .carried) 0 0) 16) _ sound .0)
+
+  pub believed-low : getD (h .believed) 0 0 < 16
+  unfolding soundHeld codeAt
+  believed-low = ltb-true _ _ (both (ltb (getD (h .carried) 0 0) 16) _ sound .1)
+
+  pub next-sound : (codes : List ℕ) → getD codes 0 0 < 16 → soundHeld (nextHeld h codes) ≡ true
+  unfolding soundHeld nextHeld codeAt
+  next-sound codes low = and-yes _ _ (lt-ltb _ _ low) (lt-ltb _ _ (first-low (h .carried) (h .believed) codes carried-low believed-low low))

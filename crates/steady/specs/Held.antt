@@ -1,0 +1,20 @@
+-- Document 02, P1: the held codes, which are part of the board. A fresh board believes 0; sound asks each held code to be 0..15.
+use mathlib.Core.Bool.{Bool, _&&_}
+use mathlib.Core.List.{List}
+use Prim.Native.Nat.{ℕ}
+use lib.Dec.{ltb}
+use lib.ListN.{replicate}
+use Rattle.status.specs.Codes.{codeAt}
+use Rattle.steady.specs.declared.Held.{Held}
+use Rattle.steady.specs.Steady.{believedOf}
+
+-- after a crossing with these codes
+unfoldable pub nextHeld : Held → List ℕ → Held
+nextHeld h codes = record { carried = codes; believed = believedOf (h .carried) (h .believed) codes }
+
+unfoldable pub freshHeld : Held
+freshHeld = record { carried = replicate 21 0; believed = replicate 21 0 }
+
+-- of input 40, the GTFE code: the others share a byte with one more, where each is 0 to 15
+unfoldable pub soundHeld : Held → Bool
+soundHeld h = ltb (codeAt (h .carried) 40) 16 && ltb (codeAt (h .believed) 40) 16

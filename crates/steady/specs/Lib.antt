@@ -1,0 +1,2 @@
+pub mod Steady
+pub mod Held
