@@ -1,5 +1,5 @@
 -- Records keep a board sound, its settings and the lengths of its lists, and each crossing counts once; a fresh board is sound.
--- Each of the five facts is kept by the law of its own crate; a run is then by induction on its records.
+-- Each of the six facts is kept by the law of its own crate; a run is then by induction on its records.
 use mathlib.Core.Path.{_≡_, refl, _∙_}
 use mathlib.Core.Logic.{⊎-elim}
 use mathlib.Core.Bool.{Bool, true, false}
@@ -19,20 +19,20 @@ use Rattle.answer.specs.Told.{DONE}
 use Rattle.settings.specs.declared.Settings.{Settings}
 use Rattle.settings.specs.Names.{orbitOf, waitsOf}
 use Rattle.settings.specs.Check.{checked}
-use Rattle.status.specs.Merge.{classes}
+use Rattle.steady.proofs.Laws.{fresh-held-sound, next-sound}
 use Rattle.throttle.proofs.Ring.{passed-long}
 use Rattle.throttle.proofs.Sound.{passed-sound, fresh-marks-sound}
 use Rattle.clock.specs.declared.Clock.{Clock}
 use Rattle.clock.specs.Clock.{orbitEnds, tickedOf, freshClock, soundClock}
 use Rattle.clock.proofs.Keeps.{ticked-sound, turned-sound, fresh-turn-sound}
 use Rattle.ptc.proofs.Keeps.{crossed-sound, commanded-sound}
-use Rattle.records.specs.Records.{recAt, isCrossing, markerIn, askedIn, codesIn, crossingsIn}
+use Rattle.records.specs.Records.{recAt, isCrossing, markerIn, askedIn, codesIn, well, firstIll, crossingsIn}
 use Rattle.records.specs.Rows.{carries, clearsOrbit}
 use Rattle.records.specs.Refusal.{LIFETIME}
-use Rattle.records.proofs.Laws.{crossings-below, row-long, command-row-long}
+use Rattle.records.proofs.Laws.{crossings-below, well-at, gtfe-low, row-long, command-row-long}
 use Rattle.board.specs.declared.Board.{Board}
 use Rattle.kit.specs.Kit.{slotsOf, planOf}
-use Rattle.board.specs.Crossing.{turnIn, sceneOf, eight, boardCrossed, rowCrossed}
+use Rattle.board.specs.Crossing.{turnIn, sceneOf, classesIn, eight, boardCrossed, rowCrossed}
 use Rattle.eight.specs.Eight.{actOf, ptcOf, byteOf, shownOf, clockOf, soundAt}
 use Rattle.ptc.specs.Fresh.{freshPtc}
 use Rattle.board.specs.Command.{commandIn, boardCommanded, rowCommanded}
@@ -114,14 +114,14 @@ eight-crossed b rec p =
     let m = b .clock .crossings in
     let asked = askedIn (getD rec 2 0) in
     let w = waits-sound s (p .checks) in
-    alli-mapI (soundAt own m) (soundAt (scene .holder) (m + 1)) (ptcOf (planOf s) scene (classes s (codesIn rec)) (getD rec 2 0))
-    (λ k q h. crossed-sound (planOf s) scene k (getD (classes s (codesIn rec)) k 0) (asked k) (eqb k own) m q w h)
+    alli-mapI (soundAt own m) (soundAt (scene .holder) (m + 1)) (ptcOf (planOf s) scene (classesIn b rec) (getD rec 2 0))
+    (λ k q h. crossed-sound (planOf s) scene k (getD (classesIn b rec) k 0) (asked k) (eqb k own) m q w h)
     0 (b .ptcs) (p .eight)
 
-pub crossing-sound : (b : Board) (rec : List ℕ) → length (b .marks) ≡ 32 → b .clock .crossings < LIFETIME → soundBoard b ≡ true
+pub crossing-sound : (b : Board) (rec : List ℕ) → length (b .marks) ≡ 32 → b .clock .crossings < LIFETIME → getD (codesIn rec) 0 0 < 16 → soundBoard b ≡ true
     → soundBoard (boardCrossed b rec) ≡ true
 unfolding boardCrossed clockOf turnIn tickedOf
-crossing-sound b rec long room e =
+crossing-sound b rec long room gtfe e =
     let p = sound-parts b e in
     let orbit = orbitOf (b .settings) in
     let marker = markerIn rec in
@@ -133,6 +133,7 @@ crossing-sound b rec long room e =
       clock = cleared-sound LIFETIME orbit (tickedOf orbit (b .clock) marker) (clearsOrbit bytes) ticked;
       turn = turned-sound (slotsOf (b .settings)) (orbitEnds (b .clock) marker) (b .turn) (slots-long (b .settings)) (p .turn);
       eight = eight-crossed b rec p;
+      held = next-sound (b .held) (p .held) (codesIn rec) gtfe;
       marks = passed-sound (b .marks) (b .clock .crossings) (one (carries bytes)) long (omega (arith, one-le (carries bytes))) (p .marks);
     })
 
@@ -153,7 +154,7 @@ unfolding boardCommanded
 command-sound b rec e =
     let p = sound-parts b e in
     parts-sound (boardCommanded b rec)
-    (record { checks = p .checks; clock = p .clock; turn = p .turn; eight = eight-commanded b rec p; marks = p .marks })
+    (record { checks = p .checks; clock = p .clock; turn = p .turn; eight = eight-commanded b rec p; held = p .held; marks = p .marks })
 
 -- ---- boards that code can have: sound, and with lists of their lengths
 
@@ -176,6 +177,7 @@ module _ (s : Settings) (ok : checked s ≡ DONE) where
         clock = fresh-clock-sound (orbitOf s) (orbit-some s ok .0);
         turn = fresh-turn-sound (slotsOf s) (slots-long s);
         eight = fresh-eight-sound (freshBoard s .turn .holder);
+        held = fresh-held-sound;
         marks = fresh-marks-sound;
       })
 
@@ -183,14 +185,14 @@ module _ (s : Settings) (ok : checked s ≡ DONE) where
   unfolding freshBoard
   fresh-fit = record { ptcs = refl; marks = refl; sound = fresh-sound }
 
-pub stepped-fit : (b : Board) (rec : List ℕ) → Fit b → (isCrossing rec ≡ true → b .clock .crossings < LIFETIME) → Fit (stepped b rec)
+pub stepped-fit : (b : Board) (rec : List ℕ) → Fit b → (isCrossing rec ≡ true → b .clock .crossings < LIFETIME) → well rec ≡ true → Fit (stepped b rec)
 unfolding stepped
-stepped-fit b rec f room =
+stepped-fit b rec f room w =
     record {
       ptcs = stepped-ptcs-long b rec ∙ f .ptcs;
       marks = stepped-marks-long b rec ∙ f .marks;
       sound = if-has (λ (x : Board). soundBoard x ≡ true) (isCrossing rec) _ _
-          (λ e. crossing-sound b rec (f .marks) (room e) (f .sound))
+          (λ e. crossing-sound b rec (f .marks) (room e) (gtfe-low rec w e) (f .sound))
           (λ e. command-sound b rec (f .sound));
     }
 
@@ -216,10 +218,11 @@ module _ (b : Board) (log : List ℕ) where
   pub ran-room : (n i : ℕ) → b .clock .crossings + crossingsIn n log ≤ LIFETIME → i < n → isCrossing (recAt log i) ≡ true → ran i b log .clock .crossings < LIFETIME
   ran-room n i life h e = omega (arith, ran-count i, crossings-below i n log h e)
 
-pub ran-fit : (n : ℕ) (b : Board) (log : List ℕ) → Fit b → b .clock .crossings + crossingsIn n log ≤ LIFETIME → (i : ℕ) → i ≤ n → Fit (ran i b log)
+pub ran-fit : (n : ℕ) (b : Board) (log : List ℕ) → Fit b → b .clock .crossings + crossingsIn n log ≤ LIFETIME → firstIll n log ≡ n → (i : ℕ) → i ≤ n → Fit (ran i b log)
 unfolding ran
-ran-fit n b log f life zero h = f
-ran-fit n b log f life (suc i) h = stepped-fit (ran i b log) (recAt log i) (ran-fit n b log f life i (omega arith)) (ran-room b log n i life h)
+ran-fit n b log f life formed zero h = f
+ran-fit n b log f life formed (suc i) h =
+    stepped-fit (ran i b log) (recAt log i) (ran-fit n b log f life formed i (omega arith)) (ran-room b log n i life h) (well-at n log formed i h)
 
 -- ---- rows
 

@@ -114,7 +114,7 @@ module _ {first : Board} {log : List ℕ} {n : ℕ} {old : List ℕ} {kit : Kit}
   rec = recAt log i
 
   fit-at : Fit now
-  fit-at = rw (t .here .board) (ran-fit n first log (t .fit) (t .life) i (omega (arith, t .less)))
+  fit-at = rw (t .here .board) (ran-fit n first log (t .fit) (t .life) (t .formed) i (omega (arith, t .less)))
 
   pub ptcs-long : length (kept .ptcs) ≡ 8
   ptcs-long = fit-at .ptcs

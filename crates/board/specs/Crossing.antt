@@ -8,6 +8,8 @@ use Rattle.settings.specs.Names.{orbitOf, rulesOf, warnBlocksOf}
 use Rattle.status.specs.Merge.{classes}
 use Rattle.throttle.specs.Marks.{passed}
 use Rattle.throttle.specs.Rules.{free}
+use Rattle.steady.specs.declared.Held.{Held}
+use Rattle.steady.specs.Held.{nextHeld}
 use Rattle.clock.specs.declared.Clock.{Clock}
 use Rattle.clock.specs.declared.Turn.{Turn}
 use Rattle.clock.specs.Clock.{numberOf, orbitEnds}
@@ -22,7 +24,7 @@ use Rattle.board.specs.declared.Board.{Board}
 use Rattle.kit.specs.Kit.{slotsOf, planOf}
 
 abbrev pub withPtcs : Board → List Ptc → Board
-withPtcs b ps = record { settings = b .settings; clock = b .clock; turn = b .turn; ptcs = ps; marks = b .marks }
+withPtcs b ps = record { settings = b .settings; clock = b .clock; turn = b .turn; ptcs = ps; held = b .held; marks = b .marks }
 
 -- step 1: who holds the slot in this crossing
 unfoldable pub turnIn : Board → Bool → Turn
@@ -39,18 +41,26 @@ sceneAt b number holder = record { number = number; holder = holder; norm = free
 unfoldable pub sceneOf : Board → Bool → Scene
 sceneOf b marker = sceneAt b (numberOf (b .clock) marker) (turnIn b marker .holder)
 
--- f of each of the eight in this crossing; step 2 gives their classes
+-- step 2 (document 02, P1): the held codes with those of this crossing, and the classes of the believed ones
+abbrev pub heldIn : Board → List ℕ → Held
+heldIn b rec = nextHeld (b .held) (codesIn rec)
+
+abbrev pub classesIn : Board → List ℕ → List ℕ
+classesIn b rec = classes (b .settings) (heldIn b rec .believed)
+
+-- f of each of the eight in this crossing
 abbrev pub eight : {A : Type 0} → (Plan → Scene → List ℕ → ℕ → ℕ → Ptc → A) → Board → List ℕ → List A
 eight f b rec =
-    mapI (f (planOf (b .settings)) (sceneOf b (markerIn rec)) (classes (b .settings) (codesIn rec)) (getD rec 2 0)) 0 (b .ptcs)
+    mapI (f (planOf (b .settings)) (sceneOf b (markerIn rec)) (classesIn b rec) (getD rec 2 0)) 0 (b .ptcs)
 
--- the board with the next clock and turn, and with this crossing's mark
-abbrev pub passedOn : Board → Clock → Turn → Bool → Board
-passedOn b clock turn carried = record {
+-- the board with the next clock and turn, with these held codes, and with this crossing's mark
+abbrev pub passedOn : Board → Clock → Turn → Held → Bool → Board
+passedOn b clock turn held carried = record {
   settings = b .settings;
   clock = clock;
   turn = turn;
   ptcs = b .ptcs;
+  held = held;
   marks = passed (b .marks) (b .clock .crossings) (one carried);
 }
 
@@ -59,7 +69,7 @@ unfoldable pub boardCrossed : Board → List ℕ → Board
 boardCrossed b rec =
     let bytes = eight byteOf b rec in
     passedOn (withPtcs b (eight ptcOf b rec)) (clockOf (orbitOf (b .settings)) (b .clock) (markerIn rec) bytes) (turnIn b (markerIn rec))
-    (carries bytes)
+    (heldIn b rec) (carries bytes)
 
 unfoldable pub rowCrossed : Board → List ℕ → List ℕ
 rowCrossed b rec = crossingRow (eight byteOf b rec) (eight shownOf b rec)

@@ -5,6 +5,7 @@ use Rattle.answer.specs.Told.{Told, told, succeeded}
 use Rattle.settings.specs.declared.Settings.{Settings}
 use Rattle.settings.specs.Check.{checked}
 use Rattle.settings.specs.Read.{standard}
+use Rattle.steady.specs.Held.{freshHeld}
 use Rattle.clock.specs.Clock.{freshClock}
 use Rattle.clock.specs.Turn.{freshTurn}
 use Rattle.board.specs.declared.Board.{Board}
@@ -12,13 +13,15 @@ use Rattle.board.specs.declared.Made.{Made}
 use Rattle.kit.specs.Kit.{slotsOf}
 use Rattle.ptc.specs.Fresh.{freshPtc}
 
--- it expects 0; the lowest controller with a slot holds it; every controller in state 0, waits and counts 0, no cycle and no marks
+-- it expects 0; the lowest controller with a slot holds it; every controller in state 0, waits and counts 0, no cycle and no marks.
+-- Document 02, P1: it believes 0
 unfoldable pub freshBoard : Settings → Board
 freshBoard s = record {
   settings = s;
   clock = freshClock;
   turn = freshTurn (slotsOf s);
   ptcs = replicate 8 freshPtc;
+  held = freshHeld;
   marks = replicate 32 0;
 }
 

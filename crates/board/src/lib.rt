@@ -10,6 +10,7 @@ use ptc::Ptc;
 use records::RECORD;
 use records::ROW;
 use settings::Settings;
+use steady::Held;
 use still::Sight;
 ghost use mathlib.Core.Path.{_≡_};
 ghost use mathlib.Core.Bool.{true};
@@ -30,6 +31,7 @@ pub struct Board {
     pub clock: Clock,
     pub turn: Turn,
     pub ptcs: [Ptc; 8],
+    pub held: Held,
     // Which of the last 2,047 crossings carried a trigger.
     pub marks: [u64; 32],
 }
@@ -60,11 +62,13 @@ fn from_checked(s: Settings) -> Board
     };
     let turn = Turn::fresh(&slots);
     let ptc = Ptc::fresh();
+    let held = Held::fresh();
     Board {
         settings: s,
         clock: clock,
         turn: turn,
         ptcs: [ptc; 8],
+        held: held,
         marks: [0u64; 32],
     }
 }

@@ -11,6 +11,7 @@ impl Board {
         let clock = self.clock;
         let turn = self.turn;
         let ptcs = self.ptcs;
-        soundness::is_sound(settings, clock, turn, ptcs, &self.marks)
+        let held = self.held;
+        soundness::is_sound(settings, clock, turn, ptcs, held, &self.marks)
     }
 }

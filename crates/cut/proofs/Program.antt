@@ -50,7 +50,7 @@ module _ (b : Board) (rows : List ℕ) (fit : Fit b) where
       let add = records-add b x y between end in
       let room : 12 * recordsIn y ≤ length (drop (12 * m) rows) = rw length-drop (omega (arith, r .space, add)) in
       let before = first-ready b x y between end (length rows) r (length rows) (omega (arith, r .space, add)) in
-      let after = ran-fit m b x fit (before .life) m (omega arith) in
+      let after = ran-fit m b x fit (before .life) (before .formed) m (omega arith) in
       let next = rest-ready b x y between end (length rows) r (length (drop (12 * m) rows)) room in
       let done = accepts (ran m b x) y (drop (12 * m) rows) (after .sound) next in
       let kept = rows-taken m b x (drop (12 * m) rows) (fit .ptcs) in

@@ -69,7 +69,7 @@ module _ {s : Settings} {log buffer : List ℕ} (t : Taken s log buffer) where
 
   -- before each record, and after the last
   pub fit-at : (i : ℕ) → i ≤ recordsIn log → Fit (ran i (freshBoard s) log)
-  fit-at = let g = ground in ran-fit (recordsIn log) (freshBoard s) log (g .fit) (rw (fresh-done s) (g .ready .life))
+  fit-at = let g = ground in ran-fit (recordsIn log) (freshBoard s) log (g .fit) (rw (fresh-done s) (g .ready .life)) (g .ready .formed)
 
   module _ (i : ℕ) (h : i < recordsIn log) where
     pub well-here : well (recAt log i) ≡ true

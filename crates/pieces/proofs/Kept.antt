@@ -25,7 +25,7 @@ unfolding blockOf
 block-fit b log rows fit =
     let n = recordsIn log in
     if-has (λ (o : RanOut). Fit (o .board)) (succeeded (answerOf b log (length rows))) _ _
-    (λ d. ran-fit n b log fit (block-ready b log (length rows) (accepted b log (length rows) d) .1 .life) n (omega arith))
+    (λ d. let r = block-ready b log (length rows) (accepted b log (length rows) d) .1 in ran-fit n b log fit (r .life) (r .formed) n (omega arith))
     (λ d. fit)
 
 pub blocks-fit : (n : ℕ) (b : Board) (log rows : List ℕ) → Fit b → Fit (inBlocks n b log rows .board)

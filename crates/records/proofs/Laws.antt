@@ -204,6 +204,14 @@ command-kind rec w k =
     (λ (e : wellCommand rec ≡ true). let f = command-facts rec e in (f .0, f .1, f .2, f .3))
     (well-kind rec w)
 
+-- the GTFE code of a crossing
+pub gtfe-low : (rec : List ℕ) → well rec ≡ true → isCrossing rec ≡ true → getD (codesIn rec) 0 0 < 16
+gtfe-low rec w k =
+    ⊎-elim
+    (λ (e : wellCrossing rec ≡ true). rw (getD-drop 3 rec 0 0) (omega (arith, crossing-facts rec e .2)))
+    (λ (e : wellCommand rec ≡ true). absurd (omega (arith, eqb-true (getD rec 0 0) 0 k, command-facts rec e .0)))
+    (well-kind rec w)
+
 -- either way the GTFE code is a nibble: the codes of a command are 0
 pub code-low : (rec : List ℕ) → length rec ≡ 24 → well rec ≡ true → getD rec 3 0 ≤ 15
 code-low rec long w =

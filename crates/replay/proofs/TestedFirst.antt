@@ -14,6 +14,7 @@ use Rattle.laws.proofs.Tests.{either}
 use Rattle.answer.specs.Told.{Told, succeeded, DONE, BOARD}
 use Rattle.records.specs.Refusal.{recordsIn}
 use Rattle.records.specs.support.Blocks.{TestedOut, testedOf}
+use Rattle.records.proofs.Laws.{all-formed}
 use Rattle.records.proofs.Testing.{Clear, answerAt, tested-next, tested-stops, tested-full, tested-clear}
 use Rattle.board.specs.declared.Board.{Board}
 use Rattle.board.specs.Run.{ran, rowsOf}
@@ -77,7 +78,7 @@ module _ (b : Board) (log rows : List ℕ) (fit : Fit b) where
       let first = b .clock .crossings in
       let full = tested-full first log (length rows) n (omega (arith, h)) d in
       let clear : Clear first log (length rows) (64 * n) = rw full at (tested-clear first log (length rows) (sound-life b (fit .sound)) n (omega arith)) in
-      let sound = ran-fit (64 * n) b log fit (clear .life) (64 * n) (omega arith) .sound in
+      let sound = ran-fit (64 * n) b log fit (clear .life) (all-formed (64 * n) log (clear .formed)) (64 * n) (omega arith) .sound in
       let at : 12 * (64 * n) ≡ 768 * n = omega arith in
       rw (sound, ran-count b log (64 * n), length-drop, at)
 

@@ -1,8 +1,9 @@
-// What a board must be (document 01, "Sound"), for any values at all of its five parts.
+// What a board must be (document 01, "Sound"), for any values at all of its six parts.
 use clock::Clock;
 use clock::Turn;
 use ptc::Ptc;
 use settings::Settings;
+use steady::Held;
 ghost use mathlib.Core.Path.{_≡_};
 ghost use Rattle.soundness.specs.Sound.{soundParts};
 
@@ -11,9 +12,10 @@ pub fn is_sound(
     clock: Clock,
     turn: Turn,
     ptcs: [Ptc; 8],
+    held: Held,
     marks: &[u64; 32],
 ) -> bool
-    ensures { λ r. ⌜ r ≡ soundParts settings clock turn ptcs (now (marks .entry)) ⌝ }
+    ensures { λ r. ⌜ r ≡ soundParts settings clock turn ptcs held (now (marks .entry)) ⌝ }
 {
     let a = settings.check();
     if !a.is_done() {
@@ -27,6 +29,9 @@ pub fn is_sound(
         return false;
     }
     if !eight::are_sound(ptcs, turn.holder, clock.crossings) {
+        return false;
+    }
+    if !held.is_sound() {
         return false;
     }
     throttle::is_sound(marks, clock.crossings)

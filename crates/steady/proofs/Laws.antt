@@ -124,17 +124,15 @@ module _ (carried believed codes : List ℕ) (c : Coded carried) (b : Coded beli
         (lt-or-ge k 21);
   }
 
-  -- by the codes of the last two crossings and the one believed before, and by nothing else
-  pub depends : (carried' believed' codes' : List ℕ) → Coded carried' → Coded believed' → Coded codes' → (i : ℕ) → i < 41
-      → codeAt carried i ≡ codeAt carried' i → codeAt believed i ≡ codeAt believed' i → codeAt codes i ≡ codeAt codes' i
-      → codeAt (believedOf carried believed codes) i ≡ codeAt (believedOf carried' believed' codes') i
-  depends carried' believed' codes' c' b' n' i h p q r =
-      believed-code i h ∙ rw (p, q, r) ∙ sym (believed-code carried' believed' codes' c' b' n' i h)
+-- by the codes of the last two crossings and the one believed before, and by nothing else
+pub depends : (c b n c' b' n' : List ℕ) → Coded c → Coded b → Coded n → Coded c' → Coded b' → Coded n' → (i : ℕ) → i < 41
+    → codeAt c i ≡ codeAt c' i → codeAt b i ≡ codeAt b' i → codeAt n i ≡ codeAt n' i → codeAt (believedOf c b n) i ≡ codeAt (believedOf c' b' n') i
+depends c b n c' b' n' oc ob on oc' ob' on' i h p q r = believed-code c b n oc ob on i h ∙ rw (p, q, r) (sym (believed-code c' b' n' oc' ob' on' i h))
 
 -- the held codes of a sound board
-pub fresh-sound : soundHeld freshHeld ≡ true
+pub fresh-held-sound : soundHeld freshHeld ≡ true
 unfolding freshHeld soundHeld codeAt
-fresh-sound = refl
+fresh-held-sound = refl
 
 module _ (h : Held) (sound : soundHeld h ≡ true) where
   pub carried-low : getD (h .carried) 0 0 < 16

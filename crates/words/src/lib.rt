@@ -38,5 +38,12 @@ pub fn same(a: &[u8], b: &[u8]) -> bool
     requires { ⌜ (length (now a) ≡ 21) × (length (now b) ≡ 21) ⌝ }
     ensures { λ r. ⌜ r ≡ sameBytes 21 (now (a .entry)) (now (b .entry)) ⌝ }
 {
-    alike(word(a, 0), word(a, 8), word(a, 13), word(b, 0), word(b, 8), word(b, 13))
+    alike(
+        word(a, 0),
+        word(a, 8),
+        word(a, 13),
+        word(b, 0),
+        word(b, 8),
+        word(b, 13),
+    )
 }

@@ -97,14 +97,25 @@ returns-4 c =
     rw (checks (k .before .before .before), clock-on k, turn-on t, sym (c .before .are-sound .ensures) ∙ not-true _ (c .if4 .taken))
 
 is-sound-requires-3 : tie.Need-is-sound-requires-3
-is-sound-requires-3 c κs = omega (arith, within-life _ _ (clock-on (c .before .before .before .before .before .before)))
+is-sound-requires-3 c κs = search needs
 
 returns-5 : tie.Need-returns-5
 returns-5 c =
-    let e = c .before in
+    let e = c .before .before in
     let t = e .before .before in
     let k = t .before .before .before .before in
-    rw (checks (k .before .before .before), clock-on k, turn-on t, sym (e .before .are-sound .ensures) ∙ not-false _ (e .if4 .left)) (c .is-sound3 .ensures)
+    rw (checks (k .before .before .before), clock-on k, turn-on t, sym (e .before .are-sound .ensures) ∙ not-false _ (e .if4 .left), sym (c .before .is-sound3 .ensures) ∙ not-true _ (c .if5 .taken))
+
+is-sound-requires-4 : tie.Need-is-sound-requires-4
+is-sound-requires-4 c κs = omega (arith, within-life _ _ (clock-on (c .before .before .before .before .before .before .before .before)))
+
+returns-6 : tie.Need-returns-6
+returns-6 c =
+    let h = c .before in
+    let e = h .before .before in
+    let t = e .before .before in
+    let k = t .before .before .before .before in
+    rw (checks (k .before .before .before), clock-on k, turn-on t, sym (e .before .are-sound .ensures) ∙ not-false _ (e .if4 .left), sym (h .before .is-sound3 .ensures) ∙ not-false _ (h .if5 .left)) (c .is-sound4 .ensures)
 
 pub is-sound-spec : {M : Type 1} → statement M
 is-sound-spec =
@@ -122,4 +133,6 @@ is-sound-spec =
     are-sound-requires
     returns-4
     is-sound-requires-3
-    returns-5)
+    returns-5
+    is-sound-requires-4
+    returns-6)

@@ -22,7 +22,7 @@ loop-holds : tie.Need-loop-holds Inv-loop μ-loop
 unfolding over
 loop-holds c = (omega arith, c .before .pre .0, c .before .pre .1, refl, refl)
 
-shared-slice-read-now : tie.Need-shared-slice-read-code Inv-loop μ-loop
+shared-slice-read-now : tie.Need-shared-slice-read-now Inv-loop μ-loop
 shared-slice-read-now c = search needs
 
 element-copy-out-byte : tie.Need-element-copy-out-byte Inv-loop μ-loop
