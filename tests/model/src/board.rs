@@ -2,6 +2,7 @@
 
 use crate::merge::{merge, Merged};
 use crate::settings::*;
+use crate::steady::Held;
 
 #[rustfmt::skip]
 #[derive(Clone, Copy, PartialEq, Eq)]
@@ -39,6 +40,7 @@ pub struct Board {
     pub bc_errors: usize,
     pub holder: usize,
     pub orbits_left: usize,
+    pub held: Held,
     pub controllers: Vec<Controller>,
     /// The crossings that carried a trigger, all of them, rising.
     pub triggers: Vec<usize>,
@@ -63,12 +65,13 @@ pub enum Done {
 
 impl Board {
     /// "Fresh holder: the lowest such with 10×slot left, or 8. A fresh board has every controller in state 0, ..."
+    /// and "believes 0" (document 02, P1).
     pub fn fresh(settings: Settings) -> Board {
         let holder = (0..8).find(|n| settings[SLOT0 + n] > 0).unwrap_or(8);
         let orbits_left = if holder == 8 { 0 } else { 10 * settings[SLOT0 + holder] };
         let idle = Controller { state: 0, wait: 0, cycle: Cycle::None, counts: [0; 10], events: 0 };
-        let (controllers, triggers) = (vec![idle; 8], Vec::new());
-        Board { settings, crossings: 0, expected: 0, orbit: 0, bc_errors: 0, holder, orbits_left, controllers, triggers }
+        let (held, controllers, triggers) = (Held::all(0), vec![idle; 8], Vec::new());
+        Board { settings, crossings: 0, expected: 0, orbit: 0, bc_errors: 0, holder, orbits_left, held, controllers, triggers }
     }
 
     pub fn record(&mut self, record: &[u8]) -> Done {
@@ -78,14 +81,16 @@ impl Board {
         }
     }
 
-    /// "One crossing, in order: 1 Number, 2 Merge, 3 Move, once per controller, 4 Cycle, then trigger."
+    /// "One crossing, in order: 1 Number, 2 Merge, 3 Move, once per controller, 4 Cycle, then trigger." The merge reads
+    /// "with believed codes", those of this crossing among them.
     fn crossing(&mut self, record: &[u8]) -> Done {
         let (marker, expected) = (record[1] == 1, self.expected);
         let had: Vec<Cycle> = self.controllers.iter().map(|controller| controller.cycle).collect();
         let (number, handed) = self.number(marker);
+        self.held.crossing(record);
         let mut did = Vec::new();
         for (n, had) in had.into_iter().enumerate() {
-            let merged = merge(&self.settings, record, n);
+            let merged = merge(&self.settings, &self.held.believed, n);
             let code = self.move_once(n, number, merged);
             let state = self.controllers[n].state;
             did.push(Did { merged, state, code, had, keeps: had, request: None, calibration: None });

@@ -1,10 +1,12 @@
-//! The model's own tests: document 01's printed case and worked figures, and some of DESIGN's open points.
+//! The model's own tests: document 01's printed case and worked figures, read with believed codes (document 02, P1), some of
+//! DESIGN's open points, and P1's own sequences of codes.
 
 use crate::board::{Board, Cycle};
 use crate::merge::{merge, Merged};
 use crate::program::{run, BLOCK, BYTES};
 use crate::report::{report, row};
 use crate::settings::*;
+use crate::steady::{carried, Held, GTFE, INPUTS};
 use std::process::ExitCode;
 
 const PRINTED: &str = "crossings=1\norbit=0\nbc_errors=0\nholder=0\nptc=0\nstate=0\nrequested=1\naccepted=0\nlost_state=1\n\
@@ -13,7 +15,7 @@ const PRINTED: &str = "crossings=1\norbit=0\nbc_errors=0\nholder=0\nptc=0\nstate
 type Cases = Vec<(&'static str, bool)>;
 
 pub fn check() -> ExitCode {
-    let cases = [figures(), merges(), moves(), cycles(), texts(), blocks()].concat();
+    let cases = [figures(), merges(), moves(), cycles(), texts(), blocks(), sequences(), between()].concat();
     let failed: Vec<_> = cases.iter().filter(|(_, holds)| !holds).collect();
     failed.iter().for_each(|(name, _)| println!("failed: {name}"));
     println!("{} passed, {} failed", cases.len() - failed.len(), failed.len());
@@ -34,16 +36,18 @@ fn with(line: usize, value: usize) -> Settings {
     settings
 }
 
-/// A board past its first crossing with controller 0 in the given state, and the number that it expects.
-fn board(settings: Settings, state: usize, expected: usize) -> Board {
+/// A board past its first crossing with controller 0 in the given state, the number that it expects, and the code that it
+/// believes of every input, which is the one carried last too.
+fn board(settings: Settings, state: usize, expected: usize, code: u8) -> Board {
     let mut board = Board::fresh(settings);
-    (board.crossings, board.expected, board.controllers[0].state) = (10_000, expected, state);
+    (board.crossings, board.expected, board.controllers[0].state, board.held) = (10_000, expected, state, Held::all(code));
     board
 }
 
-/// The crossings, from the first on, in which controller 0 sends a trigger, and how many requests it loses to the gap.
+/// The crossings, from the first on, in which controller 0 sends a trigger, and how many requests it loses to the gap. The code
+/// of the first crossing is believed in it.
 fn sent(first: usize, requests: fn(usize) -> bool, code: fn(usize) -> u8) -> (Vec<usize>, usize) {
-    let mut board = board(Settings::standard(), 7, first);
+    let mut board = board(Settings::standard(), 7, first, code(0));
     let mut sends = |t: &usize| row(&board.record(&crossing(0, u8::from(requests(*t)), code(*t))))[0] & 0x10 != 0;
     let sent = (0..400).filter(|t| sends(t)).collect();
     (sent, board.controllers[0].counts[4])
@@ -51,7 +55,7 @@ fn sent(first: usize, requests: fn(usize) -> bool, code: fn(usize) -> u8) -> (Ve
 
 fn figures() -> Cases {
     let (to_250, standard): (fn(usize) -> bool, _) = (|t| t <= 250, Settings::standard());
-    let printed = run(standard.write().as_bytes(), &crossing(0, 1, 8), &mut |_, _, _| {}).map(|(board, _)| report(&board));
+    let printed = run(standard.write().as_bytes(), &crossing(0, 1, 8), &mut |_, _| {}).map(|(board, _)| report(&board));
     let mut started = Board::fresh(standard);
     started.command(0, 1);
     let rows = (0..7430).map(|t| (t, row(&started.record(&crossing(0, 1, 8)))[0]));
@@ -60,7 +64,8 @@ fn figures() -> Cases {
         ("the printed case", printed.as_deref() == Ok(PRINTED)),
         ("READY", sent(500, to_250, |_| 8).0 == [0, 3, 25, 100, 240, 243]),
         ("WARN", sent(500, to_250, |_| 1).0 == [0, 25, 240]),
-        ("WARN from t+4", sent(500, to_250, |t| if t < 4 { 8 } else { 1 }).0 == [0, 3, 240]),
+        ("WARN believed from t+4", sent(500, to_250, |t| if t < 3 { 8 } else { 1 }).0 == [0, 3, 240]),
+        ("WARN carried from t+3, believed from t+4", sent(500, |t| t <= 3, |t| if t < 3 { 8 } else { 1 }).0 == [0, 3]),
         ("gap", sent(3443, |t| [0, 1, 120, 121].contains(&t), |_| 8) == (vec![0, 121], 2)),
         ("START", codes == [(100, 5), (3964, 8), (4064, 9), (7428, 7), (7429, 0x10)]),
     ]
@@ -70,11 +75,11 @@ fn merges() -> Cases {
     let with_11 = |byte: usize, value: u8| {
         let mut record = crossing(0, 0, 8);
         record[byte] = value;
-        merge(&Settings::standard(), &record, 0)
+        merge(&Settings::standard(), &carried(&record), 0)
     };
-    let ignoring = |code| merge(&with(IGNORE_DISC, 1), &crossing(0, 0, code), 0);
+    let ignoring = |code| merge(&with(IGNORE_DISC, 1), &[code; INPUTS], 0);
     let after_marker = |expected| {
-        let mut board = board(Settings::standard(), 0, expected);
+        let mut board = board(Settings::standard(), 0, expected, 8);
         board.record(&crossing(1, 0, 8));
         (board.bc_errors, board.orbit, board.expected)
     };
@@ -88,9 +93,9 @@ fn merges() -> Cases {
     ]
 }
 
-/// The next three states of controller 0 after a command, with the given code.
+/// The next three states of controller 0 after a command, with the given code, believed from the start.
 fn states(settings: Settings, state: usize, expected: usize, command: u8, code: u8) -> Vec<usize> {
-    let mut board = board(settings, state, expected);
+    let mut board = board(settings, state, expected, code);
     board.command(0, command);
     let mut next = |_| {
         board.record(&crossing(0, 0, code));
@@ -101,8 +106,8 @@ fn states(settings: Settings, state: usize, expected: usize, command: u8, code: 
 
 fn moves() -> Cases {
     let standard = Settings::standard;
-    let taken = |state, command| row(&board(standard(), state, 9).command(0, command))[0] == 0xF0;
-    let mut started = board(standard(), 0, 9);
+    let taken = |state, command| row(&board(standard(), state, 9, 8).command(0, command))[0] == 0xF0;
+    let mut started = board(standard(), 0, 9, 8);
     (started.controllers[0].counts, started.controllers[0].events) = ([1; 10], 5);
     started.command(0, 1);
     let (counts, events) = (started.controllers[0].counts, started.controllers[0].events);
@@ -121,12 +126,12 @@ fn moves() -> Cases {
 
 fn cycles() -> Cases {
     let after_the_slot = |slot1, cycle| {
-        let mut board = board(with(SLOT0 + 1, slot1), 7, 3100);
+        let mut board = board(with(SLOT0 + 1, slot1), 7, 3100, 8);
         (board.orbits_left, board.controllers[0].cycle) = (1, cycle);
         board.record(&crossing(1, 0, 8));
         (board.controllers[0].cycle == cycle, board.holder, board.orbits_left)
     };
-    let mut board = board(with(GAP_LOW, 3563), 7, 2999);
+    let mut board = board(with(GAP_LOW, 3563), 7, 2999, 8);
     board.command(0, 5);
     let rows: Vec<u8> = (2999..3500).map(|_| row(&board.record(&crossing(0, 1, 8)))[0]).collect();
     let counts = board.controllers[0].counts;
@@ -165,12 +170,81 @@ fn blocks() -> Cases {
     let mut spoilt = good.clone();
     (spoilt[3 * BYTES], spoilt[BLOCK]) = (2, 2);
     let late = [&good[..BLOCK], &spoilt[BLOCK..]].concat();
-    let refused = |log: &[u8]| run(&text, log, &mut |_, _, _| {}).err();
+    let refused = |log: &[u8]| run(&text, log, &mut |_, _| {}).err();
     vec![
         ("no log and a whole one", refused(&[]).is_none() && refused(&good).is_none()),
         ("a broken tail after 64 records", refused(&good[..BLOCK + 5]) == Some((LENGTH, 0))),
         ("LENGTH before RECORD in a block", refused(&spoilt[..BLOCK - 1]) == Some((LENGTH, 0))),
         ("RECORD in a block before the broken tail", refused(&spoilt[..BLOCK + 1]) == Some((RECORD, 3))),
         ("the index counts within the block", refused(&late) == Some((RECORD, 0))),
+    ]
+}
+
+/// Whether a fresh board, all inputs carrying the given codes, believes the given ones of all inputs, crossing by crossing.
+fn believes(carried: &[u8], believed: &[u8]) -> bool {
+    let mut board = Board::fresh(Settings::standard());
+    carried.iter().zip(believed).all(|(&carried, &believed)| {
+        board.record(&crossing(0, 0, carried));
+        board.held.believed == [believed; INPUTS]
+    })
+}
+
+/// The states of controller 0, from READY on, while all inputs carry the codes.
+fn ready_then(codes: &[u8]) -> Vec<usize> {
+    let mut board = board(Settings::standard(), 7, 9, 8);
+    let mut state = |code: &u8| {
+        board.record(&crossing(0, 0, *code));
+        board.controllers[0].state
+    };
+    codes.iter().map(&mut state).collect()
+}
+
+fn sequences() -> Cases {
+    let mut settings = with(RECOVER_RESYNC, 0);
+    (settings[AT_BC0], settings[AT_RESYNC]) = (100, 0);
+    let fresh_then = |codes: [u8; 2]| {
+        let mut board = Board::fresh(settings.clone());
+        board.command(0, 1);
+        codes.iter().for_each(|&code| drop(board.record(&crossing(0, 0, code))));
+        board.controllers[0].state
+    };
+    let with_bytes = |bytes: &[(usize, u8)]| {
+        let mut board = board(Settings::standard(), 7, 9, 8);
+        for &(byte, value) in bytes {
+            let mut record = crossing(0, 0, 8);
+            record[byte] = value;
+            board.record(&record);
+        }
+        (0..INPUTS).filter(|&input| board.held.believed[input] == 4).collect::<Vec<_>>()
+    };
+    vec![
+        ("a fresh board believes 0", believes(&[8, 8], &[0, 8]) && believes(&[4, 8], &[0, 0])),
+        ("8 8 0 8", believes(&[8, 8, 0, 8], &[0, 8, 8, 8])),
+        ("8 8 0 4 0 4", believes(&[8, 8, 0, 4, 0, 4], &[0, 8, 8, 8, 8, 8])),
+        ("0 then 15", believes(&[8, 8, 0, 15, 15, 0], &[0, 8, 8, 8, 15, 15])),
+        ("a bounce past state 9", ready_then(&[0, 8, 0, 15, 0, 8]) == [7; 6]),
+        ("state 9 in the second crossing, and out in the second", ready_then(&[0, 0, 8, 8, 8]) == [7, 9, 9, 6, 7]),
+        ("state 2 looks at the fresh board's 0", fresh_then([8, 4]) == 18 && fresh_then([8, 8]) == 3),
+        ("the same code on another input", with_bytes(&[(5, 0x48), (6, 0x84), (3, 4), (20, 0x84)]).is_empty()),
+        ("one input alone", with_bytes(&[(5, 0x48), (5, 0x48)]) == [3] && with_bytes(&[(3, 4), (3, 4)]) == [GTFE]),
+    ]
+}
+
+/// Block ends, commands and markers between the two crossings that carry a code.
+fn between() -> Cases {
+    let text = Settings::standard().write().into_bytes();
+    let closing = |log: &[[u8; BYTES]]| run(&text, &log.concat(), &mut |_, _| {}).map(|(board, _)| board.held.believed);
+    let over_block_end =
+        |code, next| closing(&[&[crossing(0, 0, 8); 63][..], &[crossing(0, 0, code), crossing(0, 0, next)]].concat());
+    let mut command = [0; BYTES];
+    (command[0], command[2]) = (1, 1);
+    let over_commands =
+        |code, next| closing(&[crossing(0, 0, 8), crossing(0, 0, 8), crossing(0, 0, code), command, command, next]);
+    vec![
+        ("believed over a block end", over_block_end(4, 4) == Ok([4; INPUTS])),
+        ("a bounce at a block end", over_block_end(4, 8) == Ok([8; INPUTS]) && over_block_end(0, 4) == Ok([8; INPUTS])),
+        ("believed over commands", over_commands(4, crossing(0, 0, 4)) == Ok([4; INPUTS])),
+        ("believed over commands and a marker", over_commands(4, crossing(1, 0, 4)) == Ok([4; INPUTS])),
+        ("a bounce before commands", over_commands(4, crossing(1, 0, 8)) == Ok([8; INPUTS])),
     ]
 }

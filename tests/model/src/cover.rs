@@ -1,13 +1,14 @@
-//! How often a range of seeds meets each thing that document 01 names.
+//! How often a range of seeds meets each thing that document 01 names, and document 02 up to P1.
 
 use crate::board::{Board, Cycle, Did, Done, THROTTLE};
 use crate::generate::{generate, KINDS};
-use crate::merge::{class, ignored, members, Merged};
-use crate::program::run;
+use crate::merge::{class, ignored, members, merge, Merged};
+use crate::program::{run, BLOCK, BYTES};
 use crate::settings::{Refusal, RELATION, TEXT};
+use crate::steady::{Held, INPUTS};
 
-/// Groups of rows with their items, counted by place; a dash is a place that cannot come.
-const GROUPS: [(&str, &str); 18] = [
+/// Groups of rows with their items, counted by place; a dash is a place that cannot come. A group without items is a row itself.
+const GROUPS: [(&str, &str); 23] = [
     ("state", "0 1 2 3 4 5 6 7 8 9 10 11 12 13 14 15 16 17 18 19"),
     ("merged", "none ready warning busy out_of_sync error bad disconnected"),
     ("ignored", "bad disconnected"),
@@ -26,10 +27,22 @@ const GROUPS: [(&str, &str); 18] = [
     ("zero", "free marker_expected marker_elsewhere"),
     ("refused", "- TEXT RANGE RELATION - LENGTH - RECORD TEXT_tail"),
     ("relation", "- 1 2 3 4 5"),
+    ("believed", "new over_block_end over_command over_marker"),
+    ("bounce", "not_believed back at_block_end past_state_9"),
+    ("alternating", ""),
+    ("disconnected", "0_then_15"),
+    ("fresh", "0_decides"),
 ];
 
 #[derive(Default)]
 struct Table([[u64; 20]; GROUPS.len()]);
+
+/// The log before a record: what the board held, the records, and the place among them of the last crossing.
+struct Before {
+    held: Held,
+    records: usize,
+    last_crossing: usize,
+}
 
 /// The table over the seeds of a kind, or of all kinds, or nothing for an unknown kind.
 pub fn cover(kind: &str, from: usize, to: usize) -> Option<String> {
@@ -37,7 +50,9 @@ pub fn cover(kind: &str, from: usize, to: usize) -> Option<String> {
     for kind in KINDS.iter().filter(|known| kind == "all" || kind == **known) {
         for seed in from..=to {
             let (text, log) = generate(kind, seed)?;
-            if let Err(refusal) = run(&text, &log, &mut |board, record, done| table.record(board, record, done)) {
+            let mut before = Before { held: Held::all(0), records: 0, last_crossing: 0 };
+            let mut watch = |board: &Board, done: &Done| table.record(&mut before, board, done);
+            if let Err(refusal) = run(&text, &log, &mut watch) {
                 table.refusal(refusal);
             }
         }
@@ -51,11 +66,18 @@ impl Table {
         self.0[place][item] += 1;
     }
 
+    fn add_if(&mut self, met: bool, group: &str, item: usize) {
+        if met {
+            self.add(group, item);
+        }
+    }
+
     fn rows(&self) -> String {
         let mut rows = String::new();
         for ((group, items), counts) in GROUPS.iter().zip(self.0) {
             for (item, count) in items.split(' ').zip(counts).filter(|(item, _)| *item != "-") {
-                rows += &format!("{group}_{item} {count}\n");
+                let name = if item.is_empty() { group.to_string() } else { format!("{group}_{item}") };
+                rows += &format!("{name} {count}\n");
             }
         }
         rows
@@ -70,7 +92,7 @@ impl Table {
         }
     }
 
-    fn record(&mut self, board: &Board, record: &[u8], done: &Done) {
+    fn record(&mut self, before: &mut Before, board: &Board, done: &Done) {
         match done {
             Done::Command { command, taken, dropped } => {
                 self.add(if *taken { "taken" } else { "not_taken" }, usize::from(*command));
@@ -78,23 +100,56 @@ impl Table {
                     self.add("dropped", 1);
                 }
             }
-            Done::Crossing { .. } => {
+            Done::Crossing { marker, did, .. } => {
                 self.crossing(board, done);
-                (0..8).for_each(|n| self.members(board, record, n));
+                (0..8).for_each(|n| self.members(board, n));
+                (0..INPUTS).for_each(|input| self.input(before, board, *marker, input));
+                did.iter().enumerate().for_each(|(n, did)| self.held_codes(board, did, n));
+                (before.held, before.last_crossing) = (board.held, before.records);
             }
         }
+        before.records += 1;
     }
 
-    fn members(&mut self, board: &Board, record: &[u8], n: usize) {
-        for (code, partition) in members(&board.settings, record, n).filter(|(code, _)| *code != 8) {
-            let class = class(code, partition);
+    fn members(&mut self, board: &Board, n: usize) {
+        for input in members(&board.settings, n).filter(|&input| board.held.believed[input] != 8) {
+            let code = board.held.believed[input];
+            let class = class(code, input);
             if ignored(&board.settings, class) {
                 self.add("ignored", usize::from(class == Merged::Disconnected));
             }
             if code == 11 {
-                self.add("code_11", [24, 32].iter().filter(|&&first| partition >= first).count());
+                self.add("code_11", [24, 32].iter().filter(|&&first| input >= first).count());
             }
         }
+    }
+
+    /// What becomes of a code that an input carried in the crossing before and that was not yet believed.
+    fn input(&mut self, before: &Before, board: &Board, marker: bool, input: usize) {
+        let (new, believed, now) = (before.held.carried[input], before.held.believed[input], board.held.carried[input]);
+        if new == believed {
+            return;
+        }
+        let over_block_end = before.last_crossing * BYTES / BLOCK != before.records * BYTES / BLOCK;
+        if now == new {
+            self.add("believed", 0);
+            self.add_if(over_block_end, "believed", 1);
+            self.add_if(before.last_crossing + 1 < before.records, "believed", 2);
+            return self.add_if(marker, "believed", 3);
+        }
+        self.add("bounce", 0);
+        self.add_if(now == believed, "bounce", 1);
+        self.add_if(over_block_end, "bounce", 2);
+        self.add_if(now != believed, "alternating", 0);
+        self.add_if(now != believed && (new, now) == (0, 15), "disconnected", 0);
+    }
+
+    /// A controller that runs on past state 9, where the carried codes would have taken it; and one that in the second crossing
+    /// of the log goes from state 2 to 18 by the 0 that a fresh board believes, where the carried codes would have led on.
+    fn held_codes(&mut self, board: &Board, did: &Did, n: usize) {
+        let carried = merge(&board.settings, &board.held.carried, n);
+        self.add_if((6..=8).contains(&did.state) && carried >= Merged::Bad, "bounce", 3);
+        self.add_if(board.crossings == 2 && did.state == 18 && carried < Merged::OutOfSync, "fresh", 0);
     }
 
     fn crossing(&mut self, board: &Board, done: &Done) {

@@ -35,7 +35,7 @@ pub fn generate(kind: &str, seed: usize) -> Option<(Vec<u8>, Vec<u8>)> {
         "valid" => (short(random), Manner::Lively, 1000 + random.below(5000)),
         "edge" if random.once_in(5) => (long_window(random), Manner::Standard, 4000 + random.below(5000)),
         "edge" => (edge(random), Manner::Edge, 1000 + random.below(5000)),
-        "standard" => (Settings::standard(), Manner::Standard, 7600 + random.below(4000)),
+        "standard" => (Settings::standard(), Manner::Standard, 8000 + random.below(4000)),
         _ if random.once_in(3) => (Settings::standard(), Manner::Lively, 40 + random.below(300)),
         _ => (short(random), Manner::Lively, 40 + random.below(300)),
     };
@@ -106,6 +106,21 @@ fn place_at(random: &mut Random, settings: &mut Settings, mut crossings: Vec<usi
     for line in (AT_BC0..=AT_GAP).filter(|&line| line != AT_TE) {
         settings[line] = crossings.swap_remove(random.below(crossings.len()));
     }
+    if random.once_in(4) {
+        resync_first(settings);
+    }
+}
+
+/// at_resync at crossing 0 and no wait after it: in the second crossing of the log state 2 looks at the merge, when codes of the
+/// fresh board are still believed. The line that was at crossing 0 takes the old place; at_wte cannot, since at_te follows it.
+fn resync_first(settings: &mut Settings) {
+    let resync = settings[AT_RESYNC];
+    match (AT_BC0..=AT_CAL).find(|&line| settings[line] == 0) {
+        Some(AT_WTE) => return,
+        Some(line) => (settings[line], settings[AT_RESYNC]) = (resync, 0),
+        None => settings[AT_RESYNC] = 0,
+    }
+    settings[RECOVER_RESYNC] = 0;
 }
 
 /// Good settings at the ends of their ranges; the rest as for a short orbit.

@@ -2,22 +2,30 @@
 
 use crate::board::{Board, Cycle};
 use crate::generate::Random;
-use crate::program::BYTES;
+use crate::program::{BLOCK, BYTES};
 use crate::settings::{Settings, AT_BC0, AT_CAL};
+use crate::steady::{GTFE, INPUTS};
 
 #[rustfmt::skip]
 #[derive(Clone, Copy, PartialEq)]
 pub enum Manner { Lively, Edge, Standard }
 
-/// A stretch of the log with one habit. Requests: one byte (0 for any) once in so many crossings; commands, bad markers:
-/// once in so many records. 0 is never.
+/// A stretch of the log with one habit. Unrest: begins once in so many crossings. Requests: one byte (0 for any) once in so
+/// many crossings; commands, bad markers: once in so many records. 0 is never.
 struct Stretch {
     records: usize,
     codes: [u8; BYTES],
-    flicker: bool,
+    unrest: usize,
     requests: (u8, usize),
     commands: usize,
     bad_markers: usize,
+}
+
+/// Inputs that leave the stretch's codes for some crossings: what they carry in each, `None` being the stretch's own code.
+struct Unrest {
+    inputs: Vec<usize>,
+    codes: Vec<Option<u8>>,
+    crossings_done: usize,
 }
 
 struct Journal<'a> {
@@ -29,6 +37,7 @@ struct Journal<'a> {
     good_markers: usize,
     latest: usize,
     markers_to_come: usize,
+    unrest: Unrest,
 }
 
 /// A crossing with no marker, no request and every code 8.
@@ -47,7 +56,8 @@ pub fn log(random: &mut Random, settings: &Settings, manner: Manner, records: us
         _ => (records, 4096),
     };
     let (board, log) = (Board::fresh(settings.clone()), Vec::new());
-    let mut journal = Journal { random, board, log, manner, good_markers, latest, markers_to_come: 0 };
+    let unrest = Unrest { inputs: Vec::new(), codes: Vec::new(), crossings_done: 0 };
+    let mut journal = Journal { random, board, log, manner, good_markers, latest, markers_to_come: 0, unrest };
     journal.before_the_first_crossing();
     while journal.log.len() < BYTES * records {
         let stretch = journal.stretch();
@@ -84,15 +94,15 @@ impl Journal<'_> {
         }
     }
 
+    /// Commands and markers come more often before the second crossing of an unrest, in which its code may be believed.
     fn next(&mut self, stretch: &Stretch) {
-        if self.random.once_in(stretch.commands) {
+        let second = self.unrest.crossings_done == 1;
+        if self.random.once_in(if second { 6 } else { stretch.commands }) {
             return self.fitting_command();
         }
         let mut record = stretch.codes;
-        if stretch.flicker {
-            self.trouble(&mut record);
-        }
-        record[1] = u8::from(self.marker(stretch.bad_markers));
+        self.carry_unrest(stretch.unrest, &mut record);
+        record[1] = u8::from(self.marker(if second { stretch.bad_markers / 20 } else { stretch.bad_markers }));
         if self.random.once_in(stretch.requests.1) {
             record[2] = if stretch.requests.0 == 0 { self.random.below(256) as u8 } else { stretch.requests.0 };
         }
@@ -108,11 +118,57 @@ impl Journal<'_> {
         if steady {
             let requests = (random.pick(&[0xFF, 0xFF, 0, holder]), random.pick(&[1, 1, 1, 3, 30]));
             let (records, commands) = (150 + random.below(700), random.pick(&[0, 25]));
-            return Stretch { records, codes, flicker: false, requests, commands, bad_markers: 0 };
+            return Stretch { records, codes, unrest: random.pick(&[0, 0, 20]), requests, commands, bad_markers: 0 };
         }
         let requests = (random.pick(&[0, 0xFF]), random.pick(&[0, 1, 1, 2, 5, 20]));
         let (records, commands) = (10 + random.below(250), random.pick(&[8, 25, 100]));
-        Stretch { records, codes, flicker: random.once_in(6), requests, commands, bad_markers: random.pick(&[0, 0, 400, 60]) }
+        let (unrest, bad_markers) = (random.pick(&[0, 3, 10, 40]), random.pick(&[0, 0, 400, 60]));
+        Stretch { records, codes, unrest, requests, commands, bad_markers }
+    }
+
+    /// Lets the unrest go on or, if it is over, another begin; often with the last record of a block, and with the second
+    /// crossing of the log, so that what a fresh board believes stands for longer.
+    fn carry_unrest(&mut self, once_in: usize, record: &mut [u8; BYTES]) {
+        let over = self.unrest.crossings_done == self.unrest.codes.len();
+        let block_end = once_in > 0 && self.log.len() % BLOCK == BLOCK - BYTES;
+        let fresh = self.manner != Manner::Standard && self.board.crossings == 1;
+        if over && (fresh || self.random.once_in(if block_end { 2 } else { once_in })) {
+            let (inputs, codes) = (self.unrest_inputs(), self.unrest_codes());
+            self.unrest = Unrest { inputs, codes, crossings_done: 0 };
+        } else if over {
+            return;
+        }
+        if let Some(code) = self.unrest.codes[self.unrest.crossings_done] {
+            self.unrest.inputs.iter().for_each(|&input| set_code(record, input, code));
+        }
+        self.unrest.crossings_done += 1;
+    }
+
+    fn unrest_inputs(&mut self) -> Vec<usize> {
+        match self.random.below(8) {
+            0 => (0..INPUTS).collect(),
+            1 | 2 => vec![GTFE],
+            _ => vec![self.random.below(INPUTS)],
+        }
+    }
+
+    /// Bounces and alternating codes, which are not believed; in the other manners than the standard one also codes that stay for
+    /// two crossings and more. At last the stretch's own code is back. Codes 2 and 12 are rare: only commands lead on from them.
+    fn unrest_codes(&mut self) -> Vec<Option<u8>> {
+        let any = self.random.below(16) as u8;
+        let (one, other) = (self.random.pick(&[0, 0, 15, 4, 1, 1, 11, any]), self.random.pick(&[0, 15, 4, 1, any]));
+        let (one, other) = (Some(one), Some(other));
+        let mut codes = match self.random.below(if self.manner == Manner::Standard { 4 } else { 10 }) {
+            0 => vec![one],
+            1 => vec![one, None, one],
+            2 => self.random.pick(&[[Some(0), Some(15)], [Some(15), Some(0)]]).to_vec(),
+            3 => vec![Some(0), Some(4), Some(0), Some(4)],
+            4 => vec![one, one, other, one, other, other],
+            5 => (0..2 + self.random.below(20)).map(|_| self.random.pick(&[one, other, None])).collect(),
+            _ => vec![one; 2 + self.random.below(8)],
+        };
+        codes.push(None);
+        codes
     }
 
     /// Mostly all ready or a few warnings; under standard settings nothing else, and warnings only after READY.
@@ -121,12 +177,12 @@ impl Journal<'_> {
         match self.random.below(if self.manner == Manner::Standard { 6 } else { 11 }) {
             _ if self.manner == Manner::Standard && self.board.crossings < 7430 => {}
             0..=3 => {}
-            4..=6 => (0..3).for_each(|_| set_code(&mut codes, self.random.below(41), 1)),
+            4..=6 => (0..3).for_each(|_| set_code(&mut codes, self.random.below(INPUTS), 1)),
             7..=9 if !steady => (0..2).for_each(|_| self.trouble(&mut codes)),
-            7..=9 => set_code(&mut codes, 40, 1),
+            7..=9 => set_code(&mut codes, GTFE, 1),
             _ => {
                 let code = self.random.pick(&[0, 15, 3, 9, 11, 1, 2, 4, 12]);
-                (0..41).for_each(|member| set_code(&mut codes, member, code));
+                (0..INPUTS).for_each(|input| set_code(&mut codes, input, code));
             }
         }
         codes
@@ -135,9 +191,9 @@ impl Journal<'_> {
     fn trouble(&mut self, codes: &mut [u8; BYTES]) {
         let any = self.random.below(16) as u8;
         let code = self.random.pick(&[0, 15, 1, 1, 1, 4, 2, 12, 11, any]);
-        let any = self.random.below(41);
-        let member = if code == 11 { self.random.pick(&[23, 24, any]) } else { any };
-        set_code(codes, member, code);
+        let any = self.random.below(INPUTS);
+        let input = if code == 11 { self.random.pick(&[23, 24, any]) } else { any };
+        set_code(codes, input, code);
     }
 
     /// Mostly a command that is taken in the controller's state and leads on; the holder's turn comes most often.
@@ -182,11 +238,10 @@ impl Journal<'_> {
     }
 }
 
-/// Members 0 to 31 are the partitions, 32 to 39 the aTTS codes, which follow them in the record, 40 is the GTFE code.
-fn set_code(record: &mut [u8; BYTES], member: usize, code: u8) {
-    match member {
-        40 => record[3] = code,
-        _ if member % 2 == 0 => record[4 + member / 2] = record[4 + member / 2] & 0xF0 | code,
-        _ => record[4 + member / 2] = record[4 + member / 2] & 0x0F | code << 4,
+fn set_code(record: &mut [u8; BYTES], input: usize, code: u8) {
+    match input {
+        GTFE => record[3] = code,
+        _ if input % 2 == 0 => record[4 + input / 2] = record[4 + input / 2] & 0xF0 | code,
+        _ => record[4 + input / 2] = record[4 + input / 2] & 0x0F | code << 4,
     }
 }

@@ -1,4 +1,4 @@
-//! An independent model of document 01 (the trigger desk), to test the product against. See README.md.
+//! An independent model of document 01 (the trigger desk) and document 02 up to P1, to test the product against. See README.md.
 
 mod board;
 mod check;
@@ -10,6 +10,7 @@ mod merge;
 mod program;
 mod report;
 mod settings;
+mod steady;
 mod trigger;
 
 use std::io::Write;
@@ -44,7 +45,7 @@ fn main() -> ExitCode {
 fn run(dir: &str, print: fn(&board::Board, Vec<u8>) -> Vec<u8>) -> Vec<u8> {
     let text = fs::read(format!("{dir}/board.set")).unwrap_or_default();
     let log = fs::read(format!("{dir}/run.rec")).unwrap_or_default();
-    match program::run(&text, &log, &mut |_, _, _| {}) {
+    match program::run(&text, &log, &mut |_, _| {}) {
         Ok((board, rows)) => print(&board, rows),
         Err((number, _)) => format!("refused={number}\n").into_bytes(),
     }

@@ -1,25 +1,20 @@
-//! Document 01, "One crossing", step 2: the members of a controller and what they merge to.
+//! Document 01, "One crossing", step 2, read with believed codes (document 02, P1): a controller's members and their merge.
 
 use crate::settings::{Settings, IGNORE_BAD, IGNORE_DISC, PART0};
+use crate::steady::{Codes, ATTS0, GTFE};
 
 /// Lowest first, so that the merge is the greatest class of all members.
 #[rustfmt::skip]
 #[derive(Clone, Copy, PartialEq, Eq, PartialOrd, Ord)]
 pub enum Merged { None, Ready, Warning, Busy, OutOfSync, Error, Bad, Disconnected }
 
-/// "Partition 2k in the low nibble of byte 4+k and 2k+1 in the high; ... aTTS codes, likewise."
-fn nibble(bytes: &[u8], n: usize) -> u8 {
-    (bytes[n / 2] >> (4 * (n % 2))) & 15
-}
-
-/// "Members: assigned partitions, own aTTS code, GTFE code", as code and partition (32 for the other two).
-pub fn members<'a>(settings: &'a Settings, record: &'a [u8], n: usize) -> impl Iterator<Item = (u8, usize)> + 'a {
-    let assigned = (0..32).filter(move |&p| settings[PART0 + p] == n);
-    assigned.map(|p| (nibble(&record[4..20], p), p)).chain([(nibble(&record[20..24], n), 32), (record[3], 32)])
+/// "Members: assigned partitions, own aTTS code, GTFE code", as inputs.
+pub fn members(settings: &Settings, n: usize) -> impl Iterator<Item = usize> + '_ {
+    (0..32).filter(move |&p| settings[PART0 + p] == n).chain([ATTS0 + n, GTFE])
 }
 
 /// "0 and 15 disconnected, ... 12 error; 11 from partitions 24–31 counts as busy; all else bad."
-pub fn class(code: u8, partition: usize) -> Merged {
+pub fn class(code: u8, input: usize) -> Merged {
     match code {
         0 | 15 => Merged::Disconnected,
         1 => Merged::Warning,
@@ -27,7 +22,7 @@ pub fn class(code: u8, partition: usize) -> Merged {
         4 => Merged::Busy,
         8 => Merged::Ready,
         12 => Merged::Error,
-        11 if (24..=31).contains(&partition) => Merged::Busy,
+        11 if (24..=31).contains(&input) => Merged::Busy,
         _ => Merged::Bad,
     }
 }
@@ -38,7 +33,7 @@ pub fn ignored(settings: &Settings, class: Merged) -> bool {
 }
 
 /// "Highest first: disconnected, bad, error, out of sync, busy, warning, ready; no member: none."
-pub fn merge(settings: &Settings, record: &[u8], n: usize) -> Merged {
-    let classes = members(settings, record, n).map(|(code, partition)| class(code, partition));
+pub fn merge(settings: &Settings, codes: &Codes, n: usize) -> Merged {
+    let classes = members(settings, n).map(|input| class(codes[input], input));
     classes.filter(|&class| !ignored(settings, class)).max().unwrap_or(Merged::None)
 }

@@ -9,8 +9,8 @@ pub const BYTES: usize = 24;
 pub const BLOCK: usize = 64 * BYTES;
 
 /// "Runs the log in blocks of 64 records, the last holding what is left with any broken tail": the last board and all
-/// rows, or the first refusal. `watch` sees each record after it was run.
-pub fn run(text: &[u8], log: &[u8], watch: &mut dyn FnMut(&Board, &[u8], &Done)) -> Result<(Board, Vec<u8>), Refusal> {
+/// rows, or the first refusal. `watch` sees the board after each record, and what it did.
+pub fn run(text: &[u8], log: &[u8], watch: &mut dyn FnMut(&Board, &Done)) -> Result<(Board, Vec<u8>), Refusal> {
     let mut board = Board::fresh(Settings::read(text)?);
     let mut rows = Vec::new();
     for block in log.chunks(BLOCK) {
@@ -18,7 +18,7 @@ pub fn run(text: &[u8], log: &[u8], watch: &mut dyn FnMut(&Board, &[u8], &Done))
         for record in block.chunks(BYTES) {
             let done = board.record(record);
             rows.extend(row(&done));
-            watch(&board, record, &done);
+            watch(&board, &done);
         }
     }
     Ok((board, rows))
