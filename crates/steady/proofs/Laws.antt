@@ -18,7 +18,10 @@ use Rattle.laws.proofs.Over.{length-mapI, getD-mapI}
 use Rattle.status.specs.Codes.{codeAt, Coded}
 use Rattle.steady.specs.declared.Held.{Held}
 use Rattle.steady.specs.Steady.{steady, steadyByte, believedOf}
+use Rattle.words.proofs.Laws.{same-self, same-lists}
+use Rattle.steady.specs.declared.News.{News}
 use Rattle.steady.specs.Held.{nextHeld, freshHeld, soundHeld}
+use Rattle.steady.specs.support.News.{newsOf}
 
 -- a code that came twice is believed
 pub twice : (believed code : ℕ) → steady code believed code ≡ code
@@ -58,9 +61,9 @@ small c b n p q r =
     let z : steady 0 0 0 ≤ 0 = steady-low 0 0 0 0 (omega arith) (omega arith) in
     rw (x c p, x b q, x n r, y c p, y b q, y n r) (omega arith)
 
-pub byte-same : (n : ℕ) → steadyByte n n n ≡ n
-unfolding steadyByte steady
-byte-same n = rw (eq-eqb (n % 16) (n % 16) refl, eq-eqb (n / 16) (n / 16) refl) (omega arith)
+byte-twice : (b n : ℕ) → steadyByte n b n ≡ n
+unfolding steadyByte
+byte-twice b n = rw (twice (b % 16) (n % 16), twice (b / 16) (n / 16)) (omega arith)
 
 module _ (carried believed codes : List ℕ) where
   pub believed-long : length (believedOf carried believed codes) ≡ length believed
@@ -71,11 +74,25 @@ module _ (carried believed codes : List ℕ) where
   unfolding believedOf
   believed-get k h = getD-mapI _ 0 k believed 0 0 h ∙ rw zero-add
 
+-- codes that the crossing before carried too are all believed
+pub all-twice : (believed codes : List ℕ) → length believed ≡ length codes → believedOf codes believed codes ≡ codes
+all-twice believed codes long =
+    ext-getD 0 (believedOf codes believed codes) codes (believed-long codes believed codes ∙ long)
+    (λ k h. let p : k < length believed = rw (believed-long codes believed codes) at h in believed-get codes believed codes k p ∙ byte-twice (getD believed k 0) (getD codes k 0))
+
+pub firm-now : (carried believed codes : List ℕ) → length carried ≡ 21 → length believed ≡ 21 → length codes ≡ 21 → newsOf carried believed codes .firm ≡ true
+    → believedOf carried believed codes ≡ codes
+unfolding newsOf
+firm-now carried believed codes c b n e = rw (same-lists carried codes 21 c n e) (all-twice believed codes (b ∙ sym n))
+
 -- where carried and believed are the new codes
 pub firm : (codes : List ℕ) → believedOf codes codes codes ≡ codes
-firm codes =
-    ext-getD 0 (believedOf codes codes codes) codes (believed-long codes codes codes)
-    (λ k h. let p : k < length codes = rw (believed-long codes codes codes) at h in believed-get codes codes codes k p ∙ byte-same (getD codes k 0))
+firm codes = all-twice codes codes refl
+
+-- nothing is new where the codes go on that are carried and believed
+pub no-news : (carried believed codes : List ℕ) → carried ≡ codes → believed ≡ carried → record { stays = true; firm = true } ≡ newsOf carried believed codes
+unfolding newsOf
+no-news carried believed codes c b = rw (b, c, firm codes, same-self codes 21)
 
 pub held-firm : (h : Held) (codes : List ℕ) → h .carried ≡ codes → h .believed ≡ codes → nextHeld h codes ≡ h
 unfolding nextHeld

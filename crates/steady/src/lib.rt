@@ -1,9 +1,11 @@
 // What the inputs are believed to carry (document 02, P1): a code counts when the same input carried it in two consecutive crossings.
 ghost use mathlib.Core.Path.{_≡_};
+ghost use mathlib.Core.Bool.{true};
 ghost use Prim.Native.Nat.{_<_};
 ghost use lib.ListN.{length};
 ghost use Rattle.steady.specs.Steady.{steady, steadyByte, believedOf};
 ghost use Rattle.steady.specs.Held.{freshHeld, soundHeld};
+ghost use Rattle.steady.specs.support.News.{newsOf};
 
 // Two codes of each input, laid out as the code bytes of a record: the last that it carried and the last that was believed.
 pub struct Held {
@@ -27,7 +29,7 @@ fn byte(carried: u8, believed: u8, now: u8) -> u8
 }
 
 // The held codes after a crossing with these codes, in place.
-pub fn believe(carried: &mut [u8; 21], believed: &mut [u8; 21], codes: &[u8])
+fn believe(carried: &mut [u8; 21], believed: &mut [u8; 21], codes: &[u8])
     requires { ⌜ (length (now carried) ≡ 21) × (length (now believed) ≡ 21) × (length (now codes) ≡ 21) ⌝ }
     ensures { λ _. ⌜ (now (believed .exit) ≡ believedOf (now (carried .entry)) (now (believed .entry)) (now (codes .entry))) × (now (carried .exit) ≡ now (codes .entry)) ⌝ }
 {
@@ -37,6 +39,33 @@ pub fn believe(carried: &mut [u8; 21], believed: &mut [u8; 21], codes: &[u8])
         believed[k] = byte(carried[k], believed[k], now);
         carried[k] = now;
         k += 1;
+    }
+}
+
+// What following a crossing's codes tells: whether the believed ones stayed, and whether all that it carried are believed now.
+pub struct News {
+    pub stays: bool,
+    pub firm: bool,
+}
+
+// The held codes after a crossing with these codes. Most crossings carry what the one before carried and what is believed
+// already: then there is nothing to do.
+pub fn follow(carried: &mut [u8; 21], believed: &mut [u8; 21], firm: bool, codes: &[u8]) -> News
+    requires { ⌜ (length (now carried) ≡ 21) × (length (now believed) ≡ 21) × (length (now codes) ≡ 21) × (firm ≡ true → now believed ≡ now carried) ⌝ }
+    ensures { λ r. ⌜ (r ≡ newsOf (now (carried .entry)) (now (believed .entry)) (now (codes .entry))) × (now (believed .exit) ≡ believedOf (now (carried .entry)) (now (believed .entry)) (now (codes .entry))) × (now (carried .exit) ≡ now (codes .entry)) ⌝ }
+{
+    let same = words::same(carried, codes);
+    if plain::both(firm, same) {
+        return News {
+            stays: true,
+            firm: true,
+        };
+    }
+    let before = *believed;
+    believe(carried, believed, codes);
+    News {
+        stays: words::same(&before, believed),
+        firm: same,
     }
 }
 

@@ -8,25 +8,28 @@ use ptc::Scene;
 use records::RECORD;
 use settings::Rules;
 use settings::Schedule;
-use status::Merger;
 ghost use mathlib.Core.Path.{_≡_};
-ghost use mathlib.Core.Bool.{true, not, _&&_, _||_};
-ghost use Prim.Native.Nat.{_+_, _-_, _*_, _%_, _<_, _≤_};
+ghost use mathlib.Core.Bool.{true, not, _||_};
+ghost use Prim.Native.Nat.{_+_, _*_, _%_, _≤_};
 ghost use lib.Dec.{eqb};
 ghost use lib.ListN.{length};
 ghost use Rattle.status.specs.Codes.{Coded};
-ghost use Rattle.status.specs.support.Merger.{voted};
+ghost use Rattle.lanes.specs.support.Lanes.{laneClasses};
+ghost use Rattle.words.specs.Same.{sameBytes};
+ghost use Rattle.steady.specs.Steady.{believedOf};
 ghost use Rattle.throttle.specs.Rules.{Sensible};
 ghost use Rattle.clock.specs.support.Room.{SlotRoom};
 ghost use Rattle.states.specs.Moves.{movedOf};
-ghost use Rattle.records.specs.Records.{recAt, isCrossing, codesIn, askedIn};
-ghost use Rattle.still.specs.support.Still.{plainNumber, sameBefore, dueOf, nextDue};
+ghost use Rattle.records.specs.Records.{recAt, codesIn, askedIn};
+ghost use Rattle.still.specs.support.Still.{plainNumber, dueOf, nextDue};
 ghost use Rattle.still.specs.support.Sight.{sightOf, sceneFor, firstSight};
 
 // What is told from one record to the next, and what this crossing brings.
 pub struct Sight {
     pub turn: Turn,
     pub classes: [u8; 8],
+    // This crossing has the codes of the one before it, so that all of them are believed.
+    pub firm: bool,
     pub marker: bool,
     pub requests: u8,
     // A bit for each controller that is looked at.
@@ -37,20 +40,6 @@ fn is_plain_number(at: Schedule, number: u32) -> bool
     ensures { λ r. ⌜ r ≡ plainNumber at number ⌝ }
 {
     number != 0 && (number != at.bc0 && number != at.gap)
-}
-
-// Whether the record before record i is a crossing with the same codes.
-fn repeats_crossing(log: &[u8], i: usize) -> bool
-    requires { ⌜ 24 * i + 24 ≤ length (now log) ⌝ }
-    ensures { λ r. ⌜ r ≡ sameBefore (now (log .entry)) i ⌝ }
-{
-    if i == 0 {
-        return false;
-    }
-    if log[RECORD * (i - 1)] != 0 {
-        return false;
-    }
-    records::repeats(log, i)
 }
 
 // Those that ask, where no other moves or sends: all are at rest, the codes go on, and nothing falls on the number.
@@ -79,58 +68,70 @@ pub fn next_due(due: u8, k: usize) -> usize
     k + u64::trailing_zeros(rest) as usize
 }
 
-// The classes of record i: those of the crossing before it, where it has the same codes.
-fn classes_at(merger: Merger, before: [u8; 8], same: bool, log: &[u8], i: usize) -> [u8; 8]
-    requires { ⌜ (24 * i + 24 ≤ length (now log)) × (Coded (codesIn (recAt (now log) i))) × (same ≡ true → before ≡ voted merger (codesIn (recAt (now log) i)) 40) ⌝ }
-    ensures { λ r. ⌜ r ≡ voted merger (codesIn (recAt (now (log .entry)) i)) 40 ⌝ }
+// The classes: those of the crossing before, where the believed codes stayed.
+fn classes_of(
+    table: &[u64; 656],
+    before: [u8; 8],
+    stays: bool,
+    believed: &[u8; 21],
+) -> [u8; 8]
+    requires { ⌜ (Coded (now believed)) × (stays ≡ true → before ≡ laneClasses (now table) (now believed)) ⌝ }
+    ensures { λ r. ⌜ r ≡ laneClasses (now (table .entry)) (now (believed .entry)) ⌝ }
 {
-    if same {
+    if stays {
         return before;
     }
-    merger.merge(&log[RECORD * i + 3..RECORD * i + RECORD])
+    lanes::merge(table, believed)
 }
 
 impl Sight {
-    // Before the first record.
-    pub fn first(turn: Turn) -> Sight
-        ensures { λ r. ⌜ r ≡ firstSight turn ⌝ }
+    // Before the first record: these codes are believed.
+    pub fn first(turn: Turn, table: &[u64; 656], believed: &[u8; 21]) -> Sight
+        requires { ⌜ Coded (now believed) ⌝ }
+        ensures { λ r. ⌜ r ≡ firstSight turn (now (table .entry)) (now (believed .entry)) ⌝ }
     {
+        let classes = lanes::merge(table, believed);
         Sight {
             turn: turn,
-            classes: [0u8; 8],
+            classes: classes,
+            firm: false,
             marker: false,
             requests: 0,
             due: 0,
         }
     }
 
-    // What record i, a crossing, brings. Whether all eight are at rest under the classes before it is told.
+    // What record i, a crossing, brings, and the held codes after it. Whether all eight are at rest under the classes before it is told.
     pub fn next(
         self,
         at: Schedule,
-        merger: Merger,
+        table: &[u64; 656],
         slots: &[u32; 8],
         clock: Clock,
         calm: bool,
+        carried: &mut [u8; 21],
+        believed: &mut [u8; 21],
         log: &[u8],
         i: usize,
     ) -> Sight
-        requires { ⌜ (24 * i + 24 ≤ length (now log)) × (Coded (codesIn (recAt (now log) i))) × (0 < i → isCrossing (recAt (now log) (i - 1)) ≡ true → self .classes ≡ voted merger (codesIn (recAt (now log) (i - 1))) 40) × (SlotRoom (now slots)) × (self .turn .holder ≤ 8) ⌝ }
-        ensures { λ r. ⌜ r ≡ sightOf at merger (now (slots .entry)) clock (self .turn) (calm && sameBefore (now (log .entry)) i) (recAt (now (log .entry)) i) ⌝ }
+        requires { ⌜ (24 * i + 24 ≤ length (now log)) × (Coded (codesIn (recAt (now log) i))) × (Coded (now carried)) × (Coded (now believed)) × (self .classes ≡ laneClasses (now table) (now believed)) × (self .firm ≡ true → now believed ≡ now carried) × (SlotRoom (now slots)) × (self .turn .holder ≤ 8) ⌝ }
+        ensures { λ r. ⌜ (r ≡ sightOf at (now (table .entry)) (now (slots .entry)) clock (self .turn) calm (now (carried .entry)) (now (believed .entry)) (recAt (now (log .entry)) i)) × (now (believed .exit) ≡ believedOf (now (carried .entry)) (now (believed .entry)) (codesIn (recAt (now (log .entry)) i))) × (now (carried .exit) ≡ codesIn (recAt (now (log .entry)) i)) ⌝ }
     {
         let marker = log[RECORD * i + 1] == 1;
         let requests = log[RECORD * i + 2];
-        let same = repeats_crossing(log, i);
+        let codes = &log[RECORD * i + 3..RECORD * i + RECORD];
+        let news = steady::follow(carried, believed, self.firm, codes);
         let before = self.classes;
-        let classes = classes_at(merger, before, same, log, i);
+        let classes = classes_of(table, before, news.stays, believed);
         let turn = self.turn.turned(slots, clock.ends_orbit(marker));
         let number = clock.number(marker);
         Sight {
             turn: turn,
             classes: classes,
+            firm: news.firm,
             marker: marker,
             requests: requests,
-            due: due(plain::both(calm, same), at, number, requests),
+            due: due(plain::both(calm, news.stays), at, number, requests),
         }
     }
 }

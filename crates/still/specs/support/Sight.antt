@@ -3,11 +3,12 @@ use Prim.Native.Nat.{ℕ, _%_}
 use mathlib.Core.Bool.{Bool, false, not, _&&_, _||_}
 use mathlib.Core.List.{List}
 use lib.Dec.{eqb}
-use lib.ListN.{getD, replicate}
+use lib.ListN.{getD}
 use Rattle.settings.specs.declared.names.Schedule.{Schedule}
 use Rattle.settings.specs.declared.names.Rules.{Rules}
-use Rattle.status.specs.declared.Merger.{Merger}
-use Rattle.status.specs.support.Merger.{voted}
+use Rattle.lanes.specs.support.Lanes.{laneClasses}
+use Rattle.words.specs.Same.{sameBytes}
+use Rattle.steady.specs.Steady.{believedOf}
 use Rattle.throttle.specs.Rules.{free}
 use Rattle.clock.specs.declared.Clock.{Clock}
 use Rattle.clock.specs.declared.Turn.{Turn}
@@ -22,18 +23,22 @@ use Rattle.records.specs.Records.{markerIn, askedIn, codesIn}
 use Rattle.still.specs.declared.Sight.{Sight}
 use Rattle.still.specs.support.Still.{dueOf}
 
-abbrev pub firstSight : Turn → Sight
-firstSight turn = record { turn = turn; classes = replicate 8 0; marker = false; requests = 0; due = 0 }
+abbrev pub firstSight : (turn : Turn) (table believed : List ℕ) → Sight
+firstSight turn table believed =
+    record { turn = turn; classes = laneClasses table believed; firm = false; marker = false; requests = 0; due = 0 }
 
-unfoldable pub sightOf : (at : Schedule) (merger : Merger) (slots : List ℕ) (clock : Clock) (turn : Turn) (still : Bool) (rec : List ℕ) → Sight
-sightOf at merger slots clock turn still rec =
+-- where the believed codes stay, so do the classes: it is those that a still crossing goes by
+unfoldable pub sightOf : (at : Schedule) (table slots : List ℕ) (clock : Clock) (turn : Turn) (calm : Bool) (carried believed rec : List ℕ) → Sight
+sightOf at table slots clock turn calm carried believed rec =
     let marker = markerIn rec in
+    let next = believedOf carried believed (codesIn rec) in
     record {
       turn = turnedOf slots (orbitEnds clock marker) turn;
-      classes = voted merger (codesIn rec) 40;
+      classes = laneClasses table next;
+      firm = sameBytes 21 carried (codesIn rec);
       marker = marker;
       requests = getD rec 2 0;
-      due = dueOf still at (numberOf clock marker) (getD rec 2 0);
+      due = dueOf (calm && sameBytes 21 believed next) at (numberOf clock marker) (getD rec 2 0);
     }
 
 -- what all eight see, p being the holder: where it asks, the rules by the limits of the state that it moves to

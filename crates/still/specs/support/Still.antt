@@ -1,20 +1,14 @@
 -- A board whose eight controllers are all at rest, and which of them a crossing has to look at then.
-use Prim.Native.Nat.{ℕ, _+_, _-_, _/_, _^_}
+use Prim.Native.Nat.{ℕ, _+_, _/_, _^_}
 use mathlib.Core.Bool.{Bool, not, _&&_}
-use mathlib.Core.List.{List}
 use lib.Count.{trailingZeros}
-use lib.Dec.{ltb, eqb}
+use lib.Dec.{eqb}
 use Rattle.laws.specs.Base.{if}
 use Rattle.settings.specs.declared.names.Schedule.{Schedule}
-use Rattle.records.specs.Records.{recAt, isCrossing, sameCodes}
 
 -- a number at which no orbit ends and every controller sends nothing
 unfoldable pub plainNumber : Schedule → ℕ → Bool
 plainNumber at number = not (eqb number 0) && (not (eqb number (at .bc0)) && not (eqb number (at .gap)))
-
--- the record before record i is a crossing with the same codes
-unfoldable pub sameBefore : List ℕ → ℕ → Bool
-sameBefore log i = ltb 0 i && (isCrossing (recAt log (i - 1)) && sameCodes 21 (recAt log i) (recAt log (i - 1)))
 
 -- the controllers that are looked at, a bit for each: those that ask, where no other can move or send
 unfoldable pub dueOf : (still : Bool) (at : Schedule) (number requests : ℕ) → ℕ
