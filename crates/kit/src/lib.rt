@@ -12,7 +12,7 @@ pub struct Kit {
     pub plan: Plan,
     pub rules: Rules,
     pub blocks: bool,
-    pub merger: Merger,
+    pub lanes: [u64; 656],
     pub slots: [u32; 8],
 }
 
@@ -47,14 +47,14 @@ impl Kit {
     {
         let plan = plan_of(s);
         let rules = s.rules();
-        let merger = Merger::of(s);
+        let lanes = lanes::table(Merger::of(s));
         let slots = slots_of(s);
         Kit {
             orbit: s.orbit(),
             plan: plan,
             rules: rules,
             blocks: s.warn_blocks(),
-            merger: merger,
+            lanes: lanes,
             slots: slots,
         }
     }

@@ -2,7 +2,7 @@
 -- Nothing is argued here; this is where the three demands stand complete.
 use Rattle.settings.proofs.RoundTrip.{accepted-writes-back, written-reads-back}
 use Rattle.naming.proofs.Named.{named-by-key}
-use Rattle.status.proofs.Laws.{one-pass}
+use Rattle.lanes.proofs.Laws.{one-pass}
 use Rattle.throttle.proofs.Ring.{marking}
 use Rattle.eight.proofs.Orbits.{orbits-cleared}
 use Rattle.replay.proofs.TestedFirst.{tested-first}

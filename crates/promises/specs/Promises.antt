@@ -8,7 +8,7 @@ use Rattle.settings.specs.declared.Settings.{Settings}
 use Rattle.settings.specs.Read.{readText}
 use Rattle.settings.specs.Write.{textOf, written}
 use Rattle.naming.specs.Named.{NamedByKey}
-use Rattle.status.specs.OnePass.{OnePass}
+use Rattle.lanes.specs.OnePass.{OnePass}
 use Rattle.throttle.specs.Ring.{Marking}
 use Rattle.eight.specs.Orbits.{OrbitsCleared}
 use Rattle.replay.specs.TestedFirst.{TestedFirst}

@@ -1,5 +1,4 @@
 pub mod Class
 pub mod Codes
 pub mod Merge
-pub mod OnePass
 pub mod support

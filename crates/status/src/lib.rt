@@ -2,11 +2,10 @@
 use settings::Ignores;
 use settings::Settings;
 ghost use mathlib.Core.Path.{_≡_};
-ghost use Prim.Native.Nat.{_+_, _<_, max};
+ghost use Prim.Native.Nat.{_<_};
 ghost use Rattle.laws.specs.Base.{tabulate};
 ghost use Rattle.status.specs.Class.{emulator, classOf, counted};
-ghost use Rattle.status.specs.Codes.{Coded};
-ghost use Rattle.status.specs.support.Merger.{ownerOf, half, rankAt, mergerOf, votedOf, voted};
+ghost use Rattle.status.specs.support.Merger.{ownerOf, rankAt, mergerOf};
 
 // The classes, numbered by rank.
 pub const RANK_NONE: u8 = 0;
@@ -85,22 +84,6 @@ fn counts(ignores: Ignores, class: u8) -> u8
     class
 }
 
-fn larger(a: u8, b: u8) -> u8
-    ensures { λ r. ⌜ r ≡ max a b ⌝ }
-{
-    if a < b { b } else { a }
-}
-
-// One more vote, in place: copies of the eight would cost more than all else in the pass.
-fn vote_in(best: &mut [u8; 8], owner: u32, v: u8)
-    ensures { λ _. ⌜ now (best .exit) ≡ votedOf (now (best .entry)) owner v ⌝ }
-{
-    if owner < 8 {
-        let k = owner as usize;
-        best[k] = larger(best[k], v);
-    }
-}
-
 // What of the settings the merge needs, made once for many crossings.
 pub struct Merger {
     pub owners: [u32; 40],
@@ -150,20 +133,6 @@ fn ranks(ignores: Ignores) -> [u8; 32]
     all
 }
 
-// Where the half of the table begins that is for the two inputs of a byte.
-fn half_of(byte: usize) -> usize
-    requires { ⌜ byte < 20 ⌝ }
-    ensures { λ r. ⌜ (r ≡ half (byte + byte)) × (r ≡ half (byte + byte + 1)) ⌝ }
-{
-    if byte < 12 {
-        return 0;
-    }
-    if byte < 16 {
-        return 16;
-    }
-    0
-}
-
 impl Merger {
     pub fn of(s: Settings) -> Merger
         ensures { λ r. ⌜ r ≡ mergerOf s ⌝ }
@@ -174,27 +143,5 @@ impl Merger {
             owners: owners,
             ranks: ranks,
         }
-    }
-
-    // The classes of all eight controllers, in one pass over the codes of a record, its bytes 3 to 23.
-    pub fn merge(self, codes: &[u8]) -> [u8; 8]
-        requires { ⌜ Coded (now codes) ⌝ }
-        ensures { λ r. ⌜ r ≡ voted self (now (codes .entry)) 40 ⌝ }
-    {
-        let owners = self.owners;
-        let ranks = self.ranks;
-        let gtfe = codes[0] as usize;
-        let first = ranks[gtfe];
-        let mut best = [first; 8];
-        let mut j = 0;
-        while j < 20 {
-            let b = codes[1 + j];
-            let low = half_of(j) + (b % 16) as usize;
-            let high = half_of(j) + (b / 16) as usize;
-            vote_in(&mut best, owners[j + j], ranks[low]);
-            vote_in(&mut best, owners[j + j + 1], ranks[high]);
-            j += 1;
-        }
-        best
     }
 }

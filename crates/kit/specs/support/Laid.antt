@@ -2,6 +2,7 @@
 use Rattle.settings.specs.declared.Settings.{Settings}
 use Rattle.settings.specs.Names.{orbitOf, rulesOf, warnBlocksOf}
 use Rattle.status.specs.support.Merger.{mergerOf}
+use Rattle.lanes.specs.support.Lanes.{tableOf}
 use Rattle.kit.specs.declared.Kit.{Kit}
 use Rattle.kit.specs.Kit.{slotsOf, planOf}
 
@@ -11,6 +12,6 @@ kitOf s = record {
   plan = planOf s;
   rules = rulesOf s;
   blocks = warnBlocksOf s;
-  merger = mergerOf s;
+  lanes = tableOf (mergerOf s);
   slots = slotsOf s;
 }

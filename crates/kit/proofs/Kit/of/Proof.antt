@@ -1,5 +1,5 @@
--- `Kit::of` meets its contract: its six parts, each as its call ensures it.
--- A literal of six calls' results.
+-- `Kit::of` meets its contract: its six parts, each as its calls ensure it.
+-- A literal of what the calls return.
 use borrow.Author.Needs.{needs}
 use Rattle.kit.specs.support.Laid.{kitOf}
 use Rattle.kit.proofs.Kit.of.Statement.{statement}
@@ -14,6 +14,9 @@ rules-requires c κs = search needs
 of-requires : tie.Need-of-requires
 of-requires c κs = search needs
 
+table-requires : tie.Need-table-requires
+table-requires c κs = search needs
+
 slots-of-requires : tie.Need-slots-of-requires
 slots-of-requires c κs = search needs
 
@@ -27,10 +30,11 @@ returns : tie.Need-returns
 unfolding kitOf
 returns c =
     let slots = c .before .before in
-    let rules = slots .before .before in
-    rw (c .warn-blocks .ensures, c .before .orbit .ensures, slots .slots-of .ensures, slots .before .of .ensures, rules .rules .ensures, rules .before .plan-of .ensures)
+    let table = slots .before in
+    let rules = table .before .before in
+    rw (c .warn-blocks .ensures, c .before .orbit .ensures, slots .slots-of .ensures, table .table .ensures, table .before .of .ensures, rules .rules .ensures, rules .before .plan-of .ensures)
 
 pub of-spec : {M : Type 1} → statement M
 of-spec =
     tie.close
-    (tie.spec plan-of-requires rules-requires of-requires slots-of-requires orbit-requires warn-blocks-requires returns)
+    (tie.spec plan-of-requires rules-requires of-requires table-requires slots-of-requires orbit-requires warn-blocks-requires returns)

@@ -1,0 +1,4 @@
+mod Eight
+mod Tops
+mod Words
+pub mod Laws
