@@ -7,26 +7,23 @@ use mathlib.Core.List.{List}
 use Prim.Native.Nat.{ℕ, zero, suc, _+_, _-_, _*_, _/_, _%_, _^_, _≤_, _<_}
 use native.Mathlib.Nat.{pow-suc, zero-div, mul-assoc, mul-mod-left, mul-le-mul-right}
 use native.Mathlib.Omega.{arith}
-use borrow.Author.Tests.{eqb-true, eqb-false, ltb-true, not-true}
+use borrow.Author.Tests.{eqb-true, eqb-false, not-true}
 use lib.Count.{trailingZeros, under}
-use lib.Dec.{ltb, eqb}
-use lib.ListN.{length, getD, length-take, length-drop}
+use lib.Dec.{eqb}
+use lib.ListN.{getD}
 use lib.Pow.{pow-mono, pow-add, shl-shr, shr-shr, shr-lt}
 use Rattle.laws.proofs.Bools.{both, if-has}
 use Rattle.laws.proofs.Tests.{either, same-or-not, lt-or-ge}
 use Rattle.settings.specs.declared.names.Schedule.{Schedule}
-use Rattle.status.specs.declared.Merger.{Merger}
-use Rattle.status.specs.support.Merger.{voted}
 use Rattle.states.specs.Moves.{orbitCode}
 use Rattle.ptc.specs.declared.Ptc.{Ptc}
 use Rattle.ptc.specs.declared.Plan.{Plan}
 use Rattle.ptc.specs.declared.Scene.{Scene}
 use Rattle.ptc.specs.support.Rest.{atRest}
 use Rattle.ptc.proofs.Rest.{rest-crossed, rest-silent}
-use Rattle.records.specs.Records.{recAt, isCrossing, askedIn, codesIn}
-use Rattle.records.proofs.Laws.{same-codes}
+use Rattle.records.specs.Records.{askedIn}
 use Rattle.eight.specs.Eight.{actOf}
-use Rattle.still.specs.support.Still.{plainNumber, sameBefore, dueOf, nextDue}
+use Rattle.still.specs.support.Still.{plainNumber, dueOf, nextDue}
 
 -- w is an odd multiple of 2 ^ t
 record Odd (w t : ℕ) : Type 0 where
@@ -167,18 +164,3 @@ pub passed-over : (plan : Plan) (scene : Scene) (classes : List ℕ) (requests k
 unfolding actOf
 passed-over plan scene classes requests k p rests plain silent =
     rest-crossed plan scene k (getD classes k 0) _ p rests ∙ rw silent (rest-silent plan scene k p ∙ rw (plain-code (plan .at) (scene .number) plain))
-
--- ---- codes that go on
-
--- the votes of the crossing before may be taken where the codes are the same
-pub same-votes : (merger : Merger) (before log : List ℕ) (i : ℕ) → 24 * i + 24 ≤ length log
-    → (0 < i → isCrossing (recAt log (i - 1)) ≡ true → before ≡ voted merger (codesIn (recAt log (i - 1))) 40)
-    → sameBefore log i ≡ true → before ≡ voted merger (codesIn (recAt log i)) 40
-unfolding sameBefore
-same-votes merger before log i long votes e =
-    let a = both (ltb 0 i) _ e in
-    let b = both (isCrossing (recAt log (i - 1))) _ (a .1) in
-    let some = ltb-true 0 i (a .0) in
-    let here : length (recAt log i) ≡ 24 = rw (length-take, length-drop) (omega arith) in
-    let there : length (recAt log (i - 1)) ≡ 24 = rw (length-take, length-drop) (omega arith) in
-    votes some (b .0) ∙ rw (same-codes (recAt log i) (recAt log (i - 1)) here there (b .1))
