@@ -2,10 +2,10 @@
 -- The first three by a walk in which t does not stand (`any-time`), those by rows of a whole board by the walk of `runup`.
 use mathlib.Core.Path.{_≡_, refl, sym, ap, _∙_}
 use mathlib.Core.Bool.{true, false}
-use mathlib.Core.List.{List, []}
+use mathlib.Core.List.{List}
 use Prim.Native.Nat.{ℕ, _<_}
 use native.Mathlib.Nat.{zero-add}
-use lib.Dec.{leb}
+use lib.Dec.{leb, eqb}
 use lib.ListN.{getD, replicate, getD-replicate}
 use Rattle.laws.specs.Base.{highest}
 use Rattle.laws.proofs.Over.{getD-tabulate}
@@ -14,7 +14,7 @@ use Rattle.status.specs.Codes.{codeAt}
 use Rattle.status.specs.Merge.{member, vote, merged, classes}
 use Rattle.throttle.proofs.Windows.{none-told}
 use Rattle.states.specs.Names.{READY, WARN}
-use Rattle.runup.proofs.Walk.{Follows, walk-same, walked-same}
+use Rattle.runup.proofs.Walk.{steadyUnder, Follows, walk-same, walked-same}
 use Rattle.runup.proofs.Opened.{opened}
 use Rattle.runup.proofs.FirstTrigger.{to-first-trigger}
 use Rattle.figures.specs.Figures.{ignoring, allOf, boardAt, upTo250, aroundGap, countsOf, Figures}
@@ -28,8 +28,8 @@ each-none codes e k h =
     sym here ∙ rw e (getD-replicate 8 k none none h)
 
 -- no earlier trigger, so no marks
-unmarked : (number state : ℕ) → Follows (boardAt number state) []
-unmarked number state = record { std = refl; long = refl; told = none-told number }
+unmarked : (number state : ℕ) → Follows (boardAt number state) (steadyUnder (eqb state WARN))
+unmarked number state = record { std = refl; carried = refl; believed = refl; long = refl; told = none-told number }
 
 pub figures : Figures
 unfolding opened sendsAfter highest classOf counted codeAt member vote merged classes
@@ -39,7 +39,7 @@ figures = record {
   ready-then-warning = λ t. any-time t (λ k. leb 4 k);
   ready-in-rows = walk-same (λ k. false) upTo250 400 0 (unmarked 1000 READY);
   warning-in-rows = walk-same (λ k. true) upTo250 400 0 (unmarked 1000 WARN);
-  ready-then-warning-in-rows = walk-same (λ k. leb 4 k) upTo250 400 0 (unmarked 1000 READY);
+  ready-then-warning-in-rows = walk-same (λ k. leb 3 k) upTo250 400 0 (unmarked 1000 READY);
   code-11-of-partition-23 = refl;
   code-11-of-partition-24 = refl;
   all-disconnected-and-ignored = λ k h. (each-none (allOf 0) refl k h, each-none (allOf 15) refl k h);

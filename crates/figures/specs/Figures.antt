@@ -20,7 +20,7 @@ use Rattle.ptc.specs.declared.counts.Counts.{Counts}
 use Rattle.ptc.specs.Counts.{noCounts}
 use Rattle.board.specs.declared.Board.{Board}
 use Rattle.ptc.specs.Fresh.{freshPtc}
-use Rattle.runup.specs.Crossings.{crossingWith, tells, later, started}
+use Rattle.runup.specs.Crossings.{codesUnder, crossingWith, tells, later, started}
 
 -- standard settings, a request in each of the next crossings, in WARN where warn tells, by how many were before, and else in READY.
 -- Which are sent, told by how many were before: of left crossings, the next one being crossing n and having k before it.
@@ -43,13 +43,15 @@ ignoring = record { values = set (standard .values) 14 1 }
 abbrev pub allOf : ℕ → List ℕ
 allOf c = c ∷ replicate 20 (c + 16 * c)
 
--- controller 0 holds the slot in the given state, at the given number of the first orbit, no earlier trigger
+-- controller 0 holds the slot in the given state, at the given number of the first orbit, no earlier trigger.
+-- Document 02, P1: the codes that keep it in that state, carried and believed
 abbrev pub boardAt : ℕ → ℕ → Board
 boardAt number state = record {
   settings = standard;
   clock = record { crossings = number; next = number; orbits = 0; errors = 0 };
   turn = record { holder = 0; left = 2550 };
   ptcs = record { state = state; wait = 0; cycle = 0; counts = noCounts; events = 0 } ∷ replicate 7 freshPtc;
+  held = let codes = codesUnder (eqb state WARN) in record { carried = codes; believed = codes };
   marks = replicate 32 0;
 }
 
@@ -57,7 +59,7 @@ boardAt number state = record {
 abbrev pub upTo250 : ℕ → ℕ
 upTo250 k = one (leb k 250)
 
--- what it sends from t on by rows of the whole board, t being crossing 1000; the GTFE code is a warning where warn tells
+-- what it sends from t on by rows of the whole board, t being crossing 1000; the GTFE code carried is a warning where warn tells
 abbrev pub inRows : ℕ → (ℕ → Bool) → List ℕ
 inRows state warn = tells (λ k. crossingWith (warn k) (upTo250 k)) 400 0 (boardAt 1000 state)
 
@@ -88,7 +90,8 @@ pub record Figures : Type 0 where
   pub ready-then-warning : (t : ℕ) → sendsFrom t (λ k. leb 4 k) ≡ 0 ∷ 3 ∷ 240 ∷ []
   pub ready-in-rows : inRows READY (λ k. false) ≡ 0 ∷ 16 ∷ 3 ∷ 16 ∷ 25 ∷ 16 ∷ 100 ∷ 16 ∷ 240 ∷ 16 ∷ 243 ∷ 16 ∷ []
   pub warning-in-rows : inRows WARN (λ k. true) ≡ 0 ∷ 16 ∷ 25 ∷ 16 ∷ 240 ∷ 16 ∷ []
-  pub ready-then-warning-in-rows : inRows READY (λ k. leb 4 k) ≡ 0 ∷ 16 ∷ 3 ∷ 16 ∷ 240 ∷ 16 ∷ []
+  -- Document 02, P1: believed from t + 4 on, so carried from t + 3 on
+  pub ready-then-warning-in-rows : inRows READY (λ k. leb 3 k) ≡ 0 ∷ 16 ∷ 3 ∷ 16 ∷ 240 ∷ 16 ∷ []
   pub code-11-of-partition-23 : classOf 23 11 ≡ bad
   pub code-11-of-partition-24 : classOf 24 11 ≡ busy
   pub all-disconnected-and-ignored : (k : ℕ) → k < 8 → (merged ignoring (allOf 0) k ≡ none) × (merged ignoring (allOf 15) k ≡ none)

@@ -12,7 +12,6 @@ use lib.ListN.{length, getD, List·getD-eq-default}
 use Rattle.laws.proofs.Tests.{lt-or-ge}
 use Rattle.laws.proofs.Over.{length-mapI, getD-mapI}
 use Rattle.settings.specs.declared.Settings.{Settings}
-use Rattle.status.specs.Merge.{classes}
 use Rattle.states.specs.Names.{WARN, running, statusOf}
 use Rattle.states.proofs.Keeps.{status-low, shows-warn, shows-runs}
 use Rattle.ptc.specs.declared.Ptc.{Ptc}
@@ -20,12 +19,12 @@ use Rattle.ptc.specs.declared.Scene.{Scene}
 use Rattle.ptc.specs.declared.Crossed.{Crossed}
 use Rattle.ptc.specs.Crossing.{crossedOf}
 use Rattle.ptc.proofs.Triggers.{code-fits}
-use Rattle.records.specs.Records.{recAt, markerIn, askedIn, codesIn}
+use Rattle.records.specs.Records.{recAt, markerIn, askedIn}
 use Rattle.records.specs.Rows.{rowByte}
 use Rattle.records.proofs.Laws.{byte-code, byte-fires}
 use Rattle.board.specs.declared.Board.{Board}
 use Rattle.kit.specs.Kit.{planOf}
-use Rattle.board.specs.Crossing.{sceneOf, eight, boardCrossed, rowCrossed}
+use Rattle.board.specs.Crossing.{sceneOf, classesIn, eight, boardCrossed, rowCrossed}
 use Rattle.eight.specs.Eight.{actOf, byteOf, shownOf}
 use Rattle.ptc.specs.Fresh.{freshPtc}
 use Rattle.board.specs.Run.{stepped, rowOf, ran}
@@ -41,7 +40,7 @@ use Rattle.logbook.proofs.Beams.{own-settings}
 -- controller k through it
 abbrev crossedAt : Board → List ℕ → ℕ → Crossed
 crossedAt b rec k =
-    crossedOf (planOf (b .settings)) (sceneOf b (markerIn rec)) k (getD (classes (b .settings) (codesIn rec)) k 0) (askedIn (getD rec 2 0) k)
+    crossedOf (planOf (b .settings)) (sceneOf b (markerIn rec)) k (getD (classesIn b rec) k 0) (askedIn (getD rec 2 0) k)
     (getD (b .ptcs) k freshPtc)
 
 module _ (b : Board) (rec : List ℕ) (long : length (b .ptcs) ≡ 8) where
@@ -61,7 +60,7 @@ module _ (b : Board) (rec : List ℕ) (long : length (b .ptcs) ≡ 8) where
 
     fits : crossedAt b rec k .code < 16
     fits =
-        let class = getD (classes (b .settings) (codesIn rec)) k 0 in
+        let class = getD (classesIn b rec) k 0 in
         omega (arith, code-fits (planOf (b .settings)) (sceneOf b (markerIn rec)) k class (askedIn (getD rec 2 0) k) (getD (b .ptcs) k freshPtc))
 
     code-seen : codeIn (rowCrossed b rec) k ≡ crossedAt b rec k .code
@@ -111,7 +110,7 @@ abbrev pub ptcIn : Settings → List ℕ → ℕ → ℕ → Ptc
 ptcIn s log i k = getD (ran i (freshBoard s) log .ptcs) k freshPtc
 
 abbrev pub classIn : Settings → List ℕ → ℕ → ℕ → ℕ
-classIn s log i k = getD (classes s (codesIn (recAt log i))) k 0
+classIn s log i k = getD (classesIn (ran i (freshBoard s) log) (recAt log i)) k 0
 
 abbrev pub crossedIn : Settings → List ℕ → ℕ → ℕ → Crossed
 crossedIn s log i k =

@@ -1,7 +1,7 @@
--- A walk over crossings that is quick to compute: the merge is done beforehand, and the rules look at a list of marks in place of the ring.
--- By induction on the crossings: of standard settings the GTFE code alone decides the classes here, and ring and list go on telling the same.
-use mathlib.Core.Path.{_≡_, refl, ap₂, _∙_}
-use mathlib.Core.Bool.{Bool, true, false, _||_}
+-- A walk over crossings that is quick to compute: the merge is done beforehand, two Bools stand for the held codes and a list of marks for the ring.
+-- By induction on the crossings: of standard settings the believed GTFE code alone decides the classes here, and both stand-ins go on telling the same.
+use mathlib.Core.Path.{_≡_, refl, ap, ap₂, _∙_}
+use mathlib.Core.Bool.{Bool, true, false, _||_, Bool·beq}
 use mathlib.Core.List.{List, [], _∷_}
 use Prim.Native.Nat.{ℕ, zero, suc}
 use native.Mathlib.Omega.{arith}
@@ -14,6 +14,9 @@ use Rattle.settings.specs.Read.{standard}
 use Rattle.status.specs.Class.{ready, warning, classOf, counted}
 use Rattle.status.specs.Codes.{codeAt}
 use Rattle.status.specs.Merge.{member, vote, merged, classes}
+use Rattle.steady.specs.declared.Held.{Held}
+use Rattle.steady.specs.Steady.{steady, steadyByte, believedOf}
+use Rattle.steady.specs.Held.{nextHeld}
 use Rattle.throttle.specs.Windows.{Tells, freeAfter}
 use Rattle.throttle.proofs.Ring.{passed-long}
 use Rattle.throttle.proofs.Windows.{tells-on}
@@ -22,112 +25,149 @@ use Rattle.clock.specs.Clock.{numberOf, tickedOf}
 use Rattle.ptc.specs.declared.Ptc.{Ptc}
 use Rattle.ptc.specs.declared.Plan.{Plan}
 use Rattle.ptc.specs.declared.Scene.{Scene}
-use Rattle.records.specs.Records.{codesIn}
 use Rattle.records.specs.Rows.{crossingRow, carries}
 use Rattle.board.specs.declared.Board.{Board}
 use Rattle.kit.specs.Kit.{planOf}
-use Rattle.board.specs.Crossing.{withPtcs, turnIn, sceneOf, passedOn, boardCrossed, rowCrossed}
+use Rattle.board.specs.Crossing.{withPtcs, turnIn, sceneOf, heldIn, classesIn, passedOn, boardCrossed, rowCrossed}
 use Rattle.eight.specs.Eight.{ptcOf, byteOf, shownOf, clockOf}
 use Rattle.board.specs.Run.{stepped, rowOf}
-use Rattle.runup.specs.Crossings.{crossingWith, tells, later}
+use Rattle.runup.specs.Crossings.{codesUnder, crossingWith, tells, later}
 
--- the classes of all eight
-abbrev classesUnder : Bool → List ℕ
-classesUnder warn = replicate 8 (if warn warning ready)
+-- what a walk keeps of the crossings before: whether GTFE carried a warning in the last, whether it is believed to, and the marks
+pub record Past : Type 0 where
+  pub carried : Bool
+  pub believed : Bool
+  pub marks : List ℕ
 
--- what all eight see of a crossing without a marker, the marks before it being ms
-abbrev sceneAfter : Board → List ℕ → Scene
-sceneAfter b ms =
-    let free = freeAfter (rulesOf (b .settings)) (warnBlocksOf (b .settings)) ms in
+-- one code carried and believed, and no marks
+abbrev pub steadyUnder : Bool → Past
+steadyUnder warn = record { carried = warn; believed = warn; marks = [] }
+
+-- in a crossing under warn: whether GTFE is believed to carry a warning, the held codes, and the classes of all eight
+abbrev believedNow : Past → Bool → Bool
+believedNow past warn = if (Bool·beq (past .carried) warn) warn (past .believed)
+
+abbrev heldNow : Past → Bool → Held
+heldNow past warn = record { carried = codesUnder warn; believed = codesUnder (believedNow past warn) }
+
+abbrev classesNow : Past → Bool → List ℕ
+classesNow past warn = replicate 8 (if (believedNow past warn) warning ready)
+
+-- what all eight see of a crossing without a marker
+abbrev sceneAfter : Board → Past → Scene
+sceneAfter b past =
+    let free = freeAfter (rulesOf (b .settings)) (warnBlocksOf (b .settings)) (past .marks) in
     record { number = numberOf (b .clock) false; holder = turnIn b false .holder; norm = free false; low = free true }
 
--- of such a crossing, by what all eight see, their classes and the requests: f of each, the row, the mark and the next board
+-- of such a crossing, by what all eight see, their classes and the requests: f of each, the row, the next board and what is kept after it
 abbrev eightBy : {A : Type 0} → (Plan → Scene → List ℕ → ℕ → ℕ → Ptc → A) → Board → Scene → List ℕ → ℕ → List A
 eightBy f b scene cls requests = mapI (f (planOf (b .settings)) scene cls requests) 0 (b .ptcs)
 
 abbrev rowBy : Board → Scene → List ℕ → ℕ → List ℕ
 rowBy b scene cls requests = crossingRow (eightBy byteOf b scene cls requests) (eightBy shownOf b scene cls requests)
 
-abbrev markBy : Board → Scene → List ℕ → ℕ → ℕ
-markBy b scene cls requests = one (carries (eightBy byteOf b scene cls requests))
-
-abbrev nextBy : Board → Scene → List ℕ → ℕ → Board
-nextBy b scene cls requests =
+abbrev nextBy : Board → Scene → List ℕ → Held → ℕ → Board
+nextBy b scene cls held requests =
     let bytes = eightBy byteOf b scene cls requests in
-    passedOn (withPtcs b (eightBy ptcOf b scene cls requests)) (clockOf (orbitOf (b .settings)) (b .clock) false bytes) (turnIn b false) (carries bytes)
+    passedOn (withPtcs b (eightBy ptcOf b scene cls requests)) (clockOf (orbitOf (b .settings)) (b .clock) false bytes) (turnIn b false) held (carries bytes)
 
--- a board of standard settings whose ring tells the marks ms
-pub record Follows (b : Board) (ms : List ℕ) : Type 0 where
+abbrev pastBy : Board → Scene → List ℕ → ℕ → Past → Bool → Past
+pastBy b scene cls requests past warn =
+    record { carried = warn; believed = believedNow past warn; marks = one (carries (eightBy byteOf b scene cls requests)) ∷ past .marks }
+
+-- a board of standard settings of which held codes and ring tell what the walk keeps
+pub record Follows (b : Board) (past : Past) : Type 0 where
   pub std : b .settings ≡ standard
+  pub carried : b .held .carried ≡ codesUnder (past .carried)
+  pub believed : b .held .believed ≡ codesUnder (past .believed)
   pub long : length (b .marks) ≡ 32
-  pub told : Tells (b .marks) (b .clock .crossings) ms
+  pub told : Tells (b .marks) (b .clock .crossings) (past .marks)
 
 pub near-standard : Near (rulesOf standard)
 unfolding standard
 near-standard = record { one = omega arith; two = omega arith; three = omega arith; four = omega arith }
 
-classes-same : (warn : Bool) (requests : ℕ) → classes standard (codesIn (crossingWith warn requests)) ≡ classesUnder warn
+believed-same : (carried believed warn : Bool)
+    → believedOf (codesUnder carried) (codesUnder believed) (codesUnder warn) ≡ codesUnder (if (Bool·beq carried warn) warn believed)
+unfolding believedOf mapI steadyByte steady
+believed-same true believed true = refl
+believed-same false believed false = refl
+believed-same true true false = refl
+believed-same true false false = refl
+believed-same false true true = refl
+believed-same false false true = refl
+
+classes-same : (warn : Bool) → classes standard (codesUnder warn) ≡ replicate 8 (if warn warning ready)
 unfolding classes tabulate merged highest vote member counted classOf codeAt standard
-classes-same true requests = refl
-classes-same false requests = refl
+classes-same true = refl
+classes-same false = refl
 
 -- one crossing
-module _ {b : Board} {ms : List ℕ} (f : Follows b ms) (warn : Bool) (requests : ℕ) where
-  scene-same : sceneOf b false ≡ sceneAfter b ms
+module _ {b : Board} {past : Past} (f : Follows b past) (warn : Bool) (requests : ℕ) where
+  scene-same : sceneOf b false ≡ sceneAfter b past
   unfolding sceneOf
   scene-same =
       let near : Near (rulesOf (b .settings)) = rw (f .std) near-standard in
-      let same = free-told (rulesOf (b .settings)) near (warnBlocksOf (b .settings)) (b .marks) (b .clock .crossings) ms (f .told) in
+      let same = free-told (rulesOf (b .settings)) near (warnBlocksOf (b .settings)) (b .marks) (b .clock .crossings) (past .marks) (f .told) in
       rw (same false, same true)
 
-  known : classes (b .settings) (codesIn (crossingWith warn requests)) ≡ classesUnder warn
-  known = rw (f .std) (classes-same warn requests)
+  held-same : heldIn b (crossingWith warn requests) ≡ heldNow past warn
+  unfolding nextHeld
+  held-same = rw (f .carried, f .believed, believed-same (past .carried) (past .believed) warn)
 
-  row-same : rowOf b (crossingWith warn requests) ≡ rowBy b (sceneAfter b ms) (classesUnder warn) requests
+  known : classesIn b (crossingWith warn requests) ≡ classesNow past warn
+  known = rw (f .std, held-same) (classes-same (believedNow past warn))
+
+  row-same : rowOf b (crossingWith warn requests) ≡ rowBy b (sceneAfter b past) (classesNow past warn) requests
   unfolding rowOf rowCrossed
   row-same = ap₂ (λ (scene : Scene) (cls : List ℕ). rowBy b scene cls requests) scene-same known
 
-  next-same : stepped b (crossingWith warn requests) ≡ nextBy b (sceneAfter b ms) (classesUnder warn) requests
+  next-same : stepped b (crossingWith warn requests) ≡ nextBy b (sceneAfter b past) (classesNow past warn) (heldNow past warn) requests
   unfolding stepped boardCrossed
-  next-same = ap₂ (λ (scene : Scene) (cls : List ℕ). nextBy b scene cls requests) scene-same known
+  next-same =
+      ap₂ (λ (scene : Scene) (cls : List ℕ). nextBy b scene cls (heldIn b (crossingWith warn requests)) requests) scene-same known
+      ∙ ap (λ (held : Held). nextBy b (sceneAfter b past) (classesNow past warn) held requests) held-same
 
-  follows-on : Follows (nextBy b (sceneAfter b ms) (classesUnder warn) requests) (markBy b (sceneAfter b ms) (classesUnder warn) requests ∷ ms)
+  follows-on : Follows (nextBy b (sceneAfter b past) (classesNow past warn) (heldNow past warn) requests)
+      (pastBy b (sceneAfter b past) (classesNow past warn) requests past warn)
   unfolding clockOf tickedOf
   follows-on =
-      let carried = carries (eightBy byteOf b (sceneAfter b ms) (classesUnder warn) requests) in
+      let carried = carries (eightBy byteOf b (sceneAfter b past) (classesNow past warn) requests) in
       record {
         std = f .std;
+        carried = refl;
+        believed = refl;
         long = passed-long (b .marks) (b .clock .crossings) (one carried) ∙ f .long;
-        told = tells-on (b .marks) (b .clock .crossings) ms (one carried) (f .long) (omega (arith, one-le carried)) (f .told);
+        told = tells-on (b .marks) (b .clock .crossings) (past .marks) (one carried) (f .long) (omega (arith, one-le carried)) (f .told);
       }
 
 -- warn tells under which GTFE code and asks with which requests, by how many crossings were before
 module _ (warn : ℕ → Bool) (asks : ℕ → ℕ) where
   -- what controller 0 sends
-  unfoldable pub walk : ℕ → ℕ → Board → List ℕ → List ℕ
-  walk zero k b ms = []
-  walk (suc left) k b ms =
-      let scene = sceneAfter b ms in
-      let cls = classesUnder (warn k) in
+  unfoldable pub walk : ℕ → ℕ → Board → Past → List ℕ
+  walk zero k b past = []
+  walk (suc left) k b past =
+      let scene = sceneAfter b past in
+      let cls = classesNow past (warn k) in
       let byte = getD (rowBy b scene cls (asks k)) 0 0 in
-      let rest = walk left (suc k) (nextBy b scene cls (asks k)) (markBy b scene cls (asks k) ∷ ms) in
+      let rest = walk left (suc k) (nextBy b scene cls (heldNow past (warn k)) (asks k)) (pastBy b scene cls (asks k) past (warn k)) in
       if (eqb byte 0 || (eqb byte 1 || eqb byte 11)) rest (k ∷ byte ∷ rest)
 
-  pub walk-same : (left k : ℕ) {b : Board} {ms : List ℕ} → Follows b ms → tells (λ n. crossingWith (warn n) (asks n)) left k b ≡ walk left k b ms
+  pub walk-same : (left k : ℕ) {b : Board} {past : Past} → Follows b past → tells (λ n. crossingWith (warn n) (asks n)) left k b ≡ walk left k b past
   unfolding tells walk
   walk-same zero k f = refl
   walk-same (suc left) k f =
       rw (row-same f (warn k) (asks k), next-same f (warn k) (asks k), walk-same left (suc k) (follows-on f (warn k) (asks k)))
 
   -- the board after them
-  unfoldable pub walked : ℕ → ℕ → Board → List ℕ → Board
-  walked zero k b ms = b
-  walked (suc left) k b ms =
-      let scene = sceneAfter b ms in
-      let cls = classesUnder (warn k) in
-      walked left (suc k) (nextBy b scene cls (asks k)) (markBy b scene cls (asks k) ∷ ms)
+  unfoldable pub walked : ℕ → ℕ → Board → Past → Board
+  walked zero k b past = b
+  walked (suc left) k b past =
+      let scene = sceneAfter b past in
+      let cls = classesNow past (warn k) in
+      walked left (suc k) (nextBy b scene cls (heldNow past (warn k)) (asks k)) (pastBy b scene cls (asks k) past (warn k))
 
-  pub walked-same : (left k : ℕ) {b : Board} {ms : List ℕ} → Follows b ms → later (λ n. crossingWith (warn n) (asks n)) left k b ≡ walked left k b ms
+  pub walked-same : (left k : ℕ) {b : Board} {past : Past} → Follows b past → later (λ n. crossingWith (warn n) (asks n)) left k b ≡ walked left k b past
   unfolding later walked
   walked-same zero k f = refl
   walked-same (suc left) k f = rw (next-same f (warn k) (asks k), walked-same left (suc k) (follows-on f (warn k) (asks k)))

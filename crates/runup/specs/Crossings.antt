@@ -10,9 +10,13 @@ use Rattle.board.specs.declared.Board.{Board}
 use Rattle.board.specs.Run.{stepped, rowOf}
 use Rattle.board.specs.Fresh.{freshBoard}
 
--- a crossing without a marker: GTFE code 1 under warning and 8 else, every other code 8
+-- GTFE code 1 under warning and 8 else, every other code 8
+abbrev pub codesUnder : Bool → List ℕ
+codesUnder warn = if warn 1 8 ∷ replicate 20 136
+
+-- a crossing without a marker that carries these
 abbrev pub crossingWith : Bool → ℕ → List ℕ
-crossingWith warn requests = 0 ∷ 0 ∷ requests ∷ if warn 1 8 ∷ replicate 20 136
+crossingWith warn requests = 0 ∷ 0 ∷ requests ∷ codesUnder warn
 
 -- recs gives the record of each crossing, by how many were before. What controller 0 sends in the next crossings: how many
 -- were before and its byte of the row, where that is more than the codes 1 and 11 of every orbit.
