@@ -10,8 +10,8 @@ use lib.Seq.{getD-drop}
 use Rattle.settings.specs.Names.{orbitOf, rulesOf, warnBlocksOf}
 use Rattle.status.specs.Codes.{Coded}
 use Rattle.status.specs.Merge.{classes}
-use Rattle.status.specs.support.Merger.{voted}
-use Rattle.status.proofs.Laws.{one-pass}
+use Rattle.lanes.specs.support.Lanes.{laneClasses}
+use Rattle.lanes.proofs.Laws.{one-pass}
 use Rattle.throttle.specs.Rules.{Sensible}
 use Rattle.clock.specs.declared.Turn.{Turn}
 use Rattle.clock.specs.Clock.{orbitEnds}
@@ -57,12 +57,12 @@ module _ (b : Board) (kit : Kit) (own : kit ≡ kitOf (b .settings)) where
 
 -- ---- what their answers make
 
-module _ (b : Board) (rec : List ℕ) (kit : Kit) (own : kit ≡ kitOf (b .settings)) where
-  pub turn-is : (ends : Bool) (turn : Turn) → ends ≡ orbitEnds (b .clock) (markerIn rec) → turn ≡ turnedOf (kit .slots) ends (b .turn)
+module _ (b : Board) (kit : Kit) (own : kit ≡ kitOf (b .settings)) where
+  pub turn-is : (rec : List ℕ) (ends : Bool) (turn : Turn) → ends ≡ orbitEnds (b .clock) (markerIn rec) → turn ≡ turnedOf (kit .slots) ends (b .turn)
       → turn ≡ turnIn b (markerIn rec)
   unfolding kitOf turnIn
-  turn-is ends turn e t = t ∙ rw (e, own)
+  turn-is rec ends turn e t = t ∙ rw (e, own)
 
-  pub classes-is : (got : List ℕ) → Coded (codesIn rec) → got ≡ voted (kit .merger) (codesIn rec) 40 → got ≡ classes (b .settings) (codesIn rec)
+  pub classes-is : (codes got : List ℕ) → Coded codes → got ≡ laneClasses (kit .lanes) codes → got ≡ classes (b .settings) codes
   unfolding kitOf
-  classes-is got good e = e ∙ rw own (one-pass (b .settings) (codesIn rec) good)
+  classes-is codes got good e = e ∙ rw own (one-pass (b .settings) codes good)

@@ -4,7 +4,7 @@ use mathlib.Core.Path.{_≡_, refl, ap, sym, _∙_}
 use mathlib.Core.Bool.{Bool, true, false, _&&_, false≢true}
 use mathlib.Core.List.{List, _++_}
 use Prim.Native.Nat.{ℕ, _+_, _*_, _-_, _%_, _≤_, _<_}
-use native.Mathlib.Nat.{zero-add, not-suc-le-zero}
+use native.Mathlib.Nat.{zero-add}
 use native.Mathlib.Numerals.{add-one}
 use native.Mathlib.Omega.{arith}
 use lib.Dec.{ltb}
@@ -16,8 +16,14 @@ use Rattle.laws.proofs.Bools.{both}
 use Rattle.laws.proofs.Over.{length-mapI, getD-mapI}
 use Rattle.laws.proofs.Maps.{map-is}
 use Rattle.status.specs.Codes.{Coded}
-use Rattle.status.specs.Merge.{classes}
-use Rattle.status.specs.support.Merger.{voted}
+use Rattle.lanes.specs.support.Lanes.{laneClasses}
+use Rattle.words.specs.Same.{sameBytes}
+use Rattle.words.proofs.Laws.{same-lists}
+use Rattle.steady.specs.declared.Held.{Held}
+use Rattle.steady.specs.Steady.{believedOf}
+use Rattle.steady.specs.Held.{nextHeld}
+use Rattle.steady.specs.support.News.{newsOf}
+use Rattle.steady.proofs.Laws.{firm-now, believed-coded}
 use Rattle.throttle.specs.Marks.{passed}
 use Rattle.throttle.specs.Rules.{Sensible}
 use Rattle.clock.specs.declared.Clock.{Clock}
@@ -43,13 +49,13 @@ use Rattle.kit.specs.support.Laid.{kitOf}
 use Rattle.eight.specs.Eight.{actOf, ptcOf, byteOf, shownOf, clockOf}
 use Rattle.eight.proofs.Eight.{room-at, shown-low}
 use Rattle.still.specs.declared.Sight.{Sight}
-use Rattle.still.specs.support.Still.{sameBefore, dueOf}
+use Rattle.still.specs.support.Still.{dueOf}
 use Rattle.still.specs.support.Sight.{firstSight, sightOf, sceneFor}
-use Rattle.still.proofs.Passing.{passed as passes, passed-over, due-low, same-votes}
+use Rattle.still.proofs.Passing.{passed as passes, passed-over, due-low}
 use Rattle.still.proofs.Seen.{wholeScene, scene-seen}
 use Rattle.still.proofs.Acting.{Quiet, Acted}
 use Rattle.board.specs.declared.Board.{Board}
-use Rattle.board.specs.Crossing.{withPtcs, turnIn, sceneOf, eight, boardCrossed, rowCrossed}
+use Rattle.board.specs.Crossing.{withPtcs, turnIn, sceneOf, classesIn, eight, boardCrossed, rowCrossed}
 use Rattle.board.specs.Command.{commandIn, boardCommanded, rowCommanded}
 use Rattle.board.specs.Run.{stepped, rowOf, ran, rowsOf}
 use Rattle.board.specs.support.Loop.{settled}
@@ -59,41 +65,44 @@ use Rattle.board.proofs.Keeps.{Fit, ran-settings, ran-room, ran-ptcs-lo
 
 -- ---- the loop's invariant
 
--- all eight are at rest under the classes of the crossing before record i, and show what is kept of them
-pub record Calm (log got shown : List ℕ) (i : ℕ) (ps : List Ptc) : Type 0 where
-  pub some : 0 < i
-  pub kind : isCrossing (recAt log (i - 1)) ≡ true
+-- all eight are at rest under these classes, and show what is kept of them
+pub record Calm (got shown : List ℕ) (ps : List Ptc) : Type 0 where
   pub rests : (j : ℕ) → j < 8 → atRest (getD got j 0) (getD ps j freshPtc) ≡ true
   pub shows : (j : ℕ) → j < 8 → statusOf (getD ps j freshPtc .state) ≡ getD shown j 0
 
 -- before record i the state of the loop stands for the board after the records before it
-pub record Stands (first : Board) (log : List ℕ) (n : ℕ) (old : List ℕ) (kit : Kit) (rows : List ℕ) (kept : Board) (clock : Clock) (sight : Sight)
-    (shown : List ℕ) (calm : Bool) (i : ℕ) : Type 0 where
+pub record Stands (first : Board) (log : List ℕ) (n : ℕ) (old : List ℕ) (kit : Kit) (rows : List ℕ) (kept : Board) (clock : Clock) (held : Held)
+    (sight : Sight) (shown : List ℕ) (calm : Bool) (i : ℕ) : Type 0 where
   pub most : i ≤ n
-  pub board : settled kept clock (sight .turn) ≡ ran i first log
+  pub board : settled kept clock (sight .turn) held ≡ ran i first log
   pub laidOut : rows ≡ rowsOf i first log ++ drop (12 * i) old
   pub long : length rows ≡ length old
   pub wide : length shown ≡ 8
-  pub votes : 0 < i → isCrossing (recAt log (i - 1)) ≡ true → sight .classes ≡ voted (kit .merger) (codesIn (recAt log (i - 1))) 40
-  pub still : calm ≡ true → Calm log (sight .classes) shown i (kept .ptcs)
+  pub codes : (Coded (held .carried)) × (Coded (held .believed))
+  pub votes : sight .classes ≡ laneClasses (kit .lanes) (held .believed)
+  pub firm : sight .firm ≡ true → held .believed ≡ held .carried
+  pub still : calm ≡ true → Calm (sight .classes) shown (kept .ptcs)
 
-pub stands-first : (first : Board) (log : List ℕ) (n : ℕ) (old : List ℕ) (kit : Kit) (sight : Sight) → sight ≡ firstSight (first .turn)
-    → Stands first log n old kit old first (first .clock) sight (replicate 8 0) false 0
+pub stands-first : (first : Board) (log : List ℕ) (n : ℕ) (old : List ℕ) (kit : Kit) (sight : Sight) → (Coded (first .held .carried)) × (Coded (first .held .believed))
+    → sight ≡ firstSight (first .turn) (kit .lanes) (first .held .carried) (first .held .believed)
+    → Stands first log n old kit old first (first .clock) (first .held) sight (replicate 8 0) false 0
 unfolding ran rowsOf
-stands-first first log n old kit sight e =
+stands-first first log n old kit sight codes e =
     record {
       most = omega arith;
       board = rw e;
       laidOut = refl;
       long = refl;
       wide = refl;
-      votes = λ h. absurd (not-suc-le-zero h);
+      codes = codes;
+      votes = rw e;
+      firm = λ h. sym (same-lists (first .held .carried) (first .held .believed) 21 (codes .0 .long) (codes .1 .long) (rw e at h));
       still = λ h. absurd (false≢true h);
     }
 
 -- a turn: the block that is run, which is not refused, and the state before its record i
-pub record Begun (first : Board) (log : List ℕ) (n : ℕ) (old : List ℕ) (kit : Kit) (rows : List ℕ) (kept : Board) (clock : Clock) (sight : Sight)
-    (shown : List ℕ) (calm : Bool) (i : ℕ) : Type 0 where
+pub record Begun (first : Board) (log : List ℕ) (n : ℕ) (old : List ℕ) (kit : Kit) (rows : List ℕ) (kept : Board) (clock : Clock) (held : Held)
+    (sight : Sight) (shown : List ℕ) (calm : Bool) (i : ℕ) : Type 0 where
   pub fit : Fit first
   pub long : length log ≡ 24 * n
   pub room : 12 * n ≤ length old
@@ -102,13 +111,13 @@ pub record Begun (first : Board) (log : List ℕ) (n : ℕ) (old : List ℕ) (ki
   pub bytes : (k : ℕ) → getD log k 0 < 256
   pub made : kit ≡ kitOf (first .settings)
   pub less : i < n
-  pub here : Stands first log n old kit rows kept clock sight shown calm i
+  pub here : Stands first log n old kit rows kept clock held sight shown calm i
 
-module _ {first : Board} {log : List ℕ} {n : ℕ} {old : List ℕ} {kit : Kit} {rows : List ℕ} {kept : Board} {clock : Clock} {sight : Sight}
-    {shown : List ℕ} {calm : Bool} {i : ℕ} (t : Begun first log n old kit rows kept clock sight shown calm i) where
+module _ {first : Board} {log : List ℕ} {n : ℕ} {old : List ℕ} {kit : Kit} {rows : List ℕ} {kept : Board} {clock : Clock} {held : Held}
+    {sight : Sight} {shown : List ℕ} {calm : Bool} {i : ℕ} (t : Begun first log n old kit rows kept clock held sight shown calm i) where
   -- the board before this record
   abbrev now : Board
-  now = settled kept clock (sight .turn)
+  now = settled kept clock (sight .turn) held
 
   abbrev rec : List ℕ
   rec = recAt log i
@@ -145,18 +154,19 @@ module _ {first : Board} {log : List ℕ} {n : ℕ} {old : List ℕ} {kit : Kit}
 
   -- ---- the state after a record, where it stands for the board after it
 
-  stands : (kept' : Board) (clock' : Clock) (sight' : Sight) (shown' : List ℕ) (calm' : Bool) (part : List ℕ) → settled kept' clock' (sight' .turn) ≡ stepped now rec
+  stands : (kept' : Board) (clock' : Clock) (held' : Held) (sight' : Sight) (shown' : List ℕ) (calm' : Bool) (part : List ℕ)
+      → settled kept' clock' (sight' .turn) held' ≡ stepped now rec
       → part ≡ rowOf now rec ++ drop 12 (take (length rows - 12 * i) (drop (12 * i) rows)) → length shown' ≡ 8
-      → (isCrossing rec ≡ true → sight' .classes ≡ voted (kit .merger) (codesIn rec) 40) → (calm' ≡ true → Calm log (sight' .classes) shown' (i + 1) (kept' .ptcs))
-      → Stands first log n old kit (putMid (12 * i) (length rows - 12 * i) rows part) kept' clock' sight' shown' calm' (i + 1)
+      → (Coded (held' .carried)) × (Coded (held' .believed)) → sight' .classes ≡ laneClasses (kit .lanes) (held' .believed)
+      → (sight' .firm ≡ true → held' .believed ≡ held' .carried) → (calm' ≡ true → Calm (sight' .classes) shown' (kept' .ptcs))
+      → Stands first log n old kit (putMid (12 * i) (length rows - 12 * i) rows part) kept' clock' held' sight' shown' calm' (i + 1)
   unfolding ran rowsOf
-  stands kept' clock' sight' shown' calm' part b p w v c =
+  stands kept' clock' held' sight' shown' calm' part b p w h v f c =
       let row = rowOf (ran i first log) rec in
       let eight = t .fit .ptcs in
       let wide = row-of-long (ran i first log) rec (ran-ptcs-long first log i ∙ eight) in
       let room : 12 * i + 12 ≤ length old = omega (arith, t .less, t .room) in
       let next : 12 * (i + 1) ≡ 12 * i + 12 = omega arith in
-      let last : i + 1 - 1 ≡ i = omega arith in
       let out : putMid (12 * i) (length rows - 12 * i) rows part ≡ rowsOf (i + 1) first log ++ drop (12 * (i + 1)) old =
       rw (next, add-one) (laid (rowsOf i first log) row old (12 * i) 12 (rows-long i first log eight) wide room rows part (t .here .laidOut) (p ∙ rw (t .here .board))) in
       record {
@@ -165,7 +175,9 @@ module _ {first : Board} {log : List ℕ} {n : ℕ} {old : List ℕ} {kit : Kit}
         laidOut = out;
         long = rw (out, length-append, rows-long (i + 1) first log eight, length-drop) (omega (arith, t .less, t .room));
         wide = w;
-        votes = rw last (λ h. v);
+        codes = h;
+        votes = v;
+        firm = f;
         still = c;
       }
 
@@ -177,14 +189,14 @@ module _ {first : Board} {log : List ℕ} {n : ℕ} {old : List ℕ} {kit : Kit}
   pub command-stands : (o : Commanded) (row part : List ℕ) → isCrossing rec ≡ false
       → o ≡ commandedOf (kit .plan .waits) (getD log (24 * i + 2) 0) (getD (kept .ptcs) (getD log (24 * i + 1) 0) freshPtc)
       → row ≡ commandRow (o .taken) → part ≡ row ++ drop 12 (take (length rows - 12 * i) (drop (12 * i) rows))
-      → Stands first log n old kit (putMid (12 * i) (length rows - 12 * i) rows part) (withPtcs kept (set (kept .ptcs) (getD log (24 * i + 1) 0) (o .ptc))) clock sight shown false (i + 1)
+      → Stands first log n old kit (putMid (12 * i) (length rows - 12 * i) rows part) (withPtcs kept (set (kept .ptcs) (getD log (24 * i + 1) 0) (o .ptc))) clock held sight shown false (i + 1)
   unfolding stepped rowOf boardCommanded rowCommanded commandIn kitOf
   command-stands o row part k e r p =
       let is = rw (byte-at 1 (omega arith), byte-at 2 (omega arith), own-at) at e in
-      stands _ clock sight shown false part
+      stands _ clock held sight shown false part
       (rw (k, byte-at 1 (omega arith), is))
       (p ∙ rw (k, r, is))
-      (t .here .wide) (λ z. absurd (false≢true (sym k ∙ z))) (λ z. absurd (false≢true z))
+      (t .here .wide) (t .here .codes) (t .here .votes) (t .here .firm) (λ z. absurd (false≢true z))
 
   -- ---- a crossing
 
@@ -201,21 +213,36 @@ module _ {first : Board} {log : List ℕ} {n : ℕ} {old : List ℕ} {kit : Kit}
 
     pub next-asked : (24 * i + 24 ≤ length log)
         × (Coded (codesIn rec))
-        × (0 < i → isCrossing (recAt log (i - 1)) ≡ true → sight .classes ≡ voted (kit .merger) (codesIn (recAt log (i - 1))) 40)
+        × (Coded (held .carried))
+        × (Coded (held .believed))
+        × (sight .classes ≡ laneClasses (kit .lanes) (held .believed))
+        × (sight .firm ≡ true → held .believed ≡ held .carried)
         × (SlotRoom (kit .slots))
         × (sight .turn .holder ≤ 8)
     next-asked =
         let s = turn-asked now kit own-at (fit-at .sound) in
-        (omega (arith, t .less, t .long), coded-at, t .here .votes, s .0, s .1)
+        (omega (arith, t .less, t .long), coded-at, t .here .codes .0, t .here .codes .1, t .here .votes, t .here .firm, s .0, s .1)
 
     pub rules-asked : Sensible (kit .rules)
     rules-asked = scene-asked now kit own-at (fit-at .sound) .2
 
-    module _ (seen : Sight) (looks : seen ≡ sightOf (kit .plan .at) (kit .merger) (kit .slots) clock (sight .turn) (calm && sameBefore log i) rec)
+    module _ (seen : Sight) (looks : seen ≡ sightOf (kit .plan .at) (kit .lanes) (kit .slots) clock (sight .turn) calm (held .carried) (held .believed) rec)
         (scene : Scene) (sees : scene ≡ sceneFor (kit .plan) (kit .rules) (kit .blocks) (getD (kept .ptcs) (seen .turn .holder % 8) freshPtc) seen (kept .marks) clock) where
-      votes-at : seen .classes ≡ voted (kit .merger) (codesIn rec) 40
+      -- the believed codes with those of this crossing
+      abbrev next : List ℕ
+      next = believedOf (held .carried) (held .believed) (codesIn rec)
+
+      next-coded : Coded next
+      next-coded = believed-coded (held .carried) (held .believed) (codesIn rec) (t .here .codes .0) (t .here .codes .1) coded-at
+
+      votes-at : seen .classes ≡ laneClasses (kit .lanes) next
       unfolding sightOf
       votes-at = ap (λ (l : Sight). l .classes) looks
+
+      firm-at : seen .firm ≡ true → next ≡ codesIn rec
+      unfolding sightOf newsOf
+      firm-at e =
+          firm-now (held .carried) (held .believed) (codesIn rec) (t .here .codes .0 .long) (t .here .codes .1 .long) (coded-at .long) (sym (ap (λ (l : Sight). l .firm) looks) ∙ e)
 
       requests-at : seen .requests ≡ getD rec 2 0
       unfolding sightOf
@@ -227,12 +254,13 @@ module _ {first : Board} {log : List ℕ} {n : ℕ} {old : List ℕ} {kit : Kit}
 
       turn-at : seen .turn ≡ turnIn now (markerIn rec)
       unfolding sightOf
-      turn-at = turn-is now rec kit own-at _ _ refl (ap (λ (l : Sight). l .turn) looks)
+      turn-at = turn-is now kit own-at rec _ _ refl (ap (λ (l : Sight). l .turn) looks)
 
-      classes-at : seen .classes ≡ classes (kept .settings) (codesIn rec)
-      classes-at = classes-is now rec kit own-at _ coded-at votes-at
+      classes-at : seen .classes ≡ classesIn now rec
+      unfolding nextHeld
+      classes-at = classes-is now kit own-at next _ next-coded votes-at
 
-      due-at : seen .due ≡ dueOf (calm && sameBefore log i) (kit .plan .at) (numberOf clock (seen .marker)) (seen .requests)
+      due-at : seen .due ≡ dueOf (calm && sameBytes 21 (held .believed) next) (kit .plan .at) (numberOf clock (seen .marker)) (seen .requests)
       unfolding sightOf
       due-at = ap (λ (l : Sight). l .due) looks ∙ rw (marker-at, requests-at)
 
@@ -243,13 +271,14 @@ module _ {first : Board} {log : List ℕ} {n : ℕ} {old : List ℕ} {kit : Kit}
       unfolding sceneFor
       number-at = ap (λ (s : Scene). s .number) sees
 
-      -- whoever is not due: all were at rest, and the codes go on
+      -- whoever is not due: all were at rest, and the believed codes stay
       pub quiet-at : (j : ℕ) → j < 8 → askedIn (seen .due) j ≡ false → Quiet (kit .plan) scene (seen .classes) (seen .requests) (seen .due) (kept .ptcs) shown j
       quiet-at j h e =
           let p = passes _ _ _ _ j h (rw due-at at e) in
-          let w = both calm (sameBefore log i) (p .rests) in
+          let w = both calm (sameBytes 21 (held .believed) next) (p .rests) in
           let c = t .here .still (w .0) in
-          let same : sight .classes ≡ seen .classes = same-votes (kit .merger) (sight .classes) log i (next-asked .0) (t .here .votes) (w .1) ∙ sym votes-at in
+          let stays = same-lists (held .believed) next 21 (t .here .codes .1 .long) (next-coded .long) (w .1) in
+          let same : sight .classes ≡ seen .classes = t .here .votes ∙ ap (laneClasses (kit .lanes)) stays ∙ sym votes-at in
           let rests = rw same at (c .rests j h) in
           record { rests = rests; shows = c .shows j h; stays = passed-over _ _ _ _ j _ rests (rw number-at (p .plain)) (p .silent) }
 
@@ -259,7 +288,7 @@ module _ {first : Board} {log : List ℕ} {n : ℕ} {old : List ℕ} {kit : Kit}
 
       acts-at : (k : ℕ) → k < 8
           → actOf (kit .plan) scene (seen .classes) (seen .requests) k (getD (kept .ptcs) k freshPtc)
-          ≡ actOf (planOf (kept .settings)) (sceneOf now (markerIn rec)) (classes (kept .settings) (codesIn rec)) (getD rec 2 0) k (getD (kept .ptcs) k freshPtc)
+          ≡ actOf (planOf (kept .settings)) (sceneOf now (markerIn rec)) (classesIn now rec) (getD rec 2 0) k (getD (kept .ptcs) k freshPtc)
       unfolding kitOf
       acts-at k h =
           let plan : kit .plan ≡ planOf (kept .settings) = rw own-at in
@@ -270,7 +299,7 @@ module _ {first : Board} {log : List ℕ} {n : ℕ} {old : List ℕ} {kit : Kit}
       -- what the loop made of the eight is what the definition makes of them
       eight-at : {A : Type 0} (g : Crossed → A) (d : A)
           → mapI (λ k p. g (actOf (kit .plan) scene (seen .classes) (seen .requests) k p)) 0 (kept .ptcs)
-          ≡ mapI (λ k p. g (actOf (planOf (kept .settings)) (sceneOf now (markerIn rec)) (classes (kept .settings) (codesIn rec)) (getD rec 2 0) k p)) 0 (kept .ptcs)
+          ≡ mapI (λ k p. g (actOf (planOf (kept .settings)) (sceneOf now (markerIn rec)) (classesIn now rec) (getD rec 2 0) k p)) 0 (kept .ptcs)
       eight-at g d =
           map-is _ (kept .ptcs) freshPtc d _ (length-mapI _ 0 (kept .ptcs))
           (λ k h. ap g (acts-at k (rw (← ptcs-long) h)) ∙ sym (getD-mapI _ 0 k (kept .ptcs) freshPtc d h ∙ rw zero-add))
@@ -291,27 +320,25 @@ module _ {first : Board} {log : List ℕ} {n : ℕ} {old : List ℕ} {kit : Kit}
         unfolding shownOf
         shown-fits = rw shown-at (shown-low (λ k p. actOf _ _ _ _ k p .ptc .state) 0 _)
 
-        calm-at : (kept' : Board) → kept' .ptcs ≡ cur → calm' ≡ true → Calm log (seen .classes) shown' (i + 1) (kept' .ptcs)
+        calm-at : (kept' : Board) → kept' .ptcs ≡ cur → calm' ≡ true → Calm (seen .classes) shown' (kept' .ptcs)
         unfolding shownOf
         calm-at kept' same z =
-            let last : i + 1 - 1 ≡ i = omega arith in
             let at : (j : ℕ) → j < 8 → getD (kept' .ptcs) j freshPtc ≡ ptcOf (kit .plan) scene (seen .classes) (seen .requests) j (getD (kept .ptcs) j freshPtc) =
             λ j h. rw (same, a .ptcs) (getD-mapI _ 0 j (kept .ptcs) freshPtc freshPtc (rw ptcs-long h) ∙ rw zero-add) in
             record {
-              some = omega arith;
-              kind = rw last kind;
               rests = λ j h. rw (at j h) (a .rests z j h);
               shows = λ j h. rw (at j h, a .shows) (sym (getD-mapI _ 0 j (kept .ptcs) freshPtc 0 (rw ptcs-long h) ∙ rw zero-add));
             }
 
-        pub crossing-stands : (kept' : Board) (carried : Bool) (mark : ℕ) (after : Clock) (marks row part : List ℕ)
+        pub crossing-stands : (kept' : Board) (held' : Held) (carried : Bool) (mark : ℕ) (after : Clock) (marks row part : List ℕ)
             → carried ≡ carries bytes → mark ≡ one carried → marks ≡ passed (kept .marks) (clock .crossings) mark → after ≡ clockOf (kit .orbit) clock (seen .marker) bytes
-            → kept' ≡ record { settings = kept .settings; clock = kept .clock; turn = kept .turn; ptcs = cur; marks = marks }
+            → kept' ≡ record { settings = kept .settings; clock = kept .clock; turn = kept .turn; ptcs = cur; held = kept .held; marks = marks }
+            → held' .carried ≡ codesIn rec → held' .believed ≡ next
             → row ≡ crossingRow bytes shown' → part ≡ row ++ drop 12 (take (length rows - 12 * i) (drop (12 * i) rows))
-            → Stands first log n old kit (putMid (12 * i) (length rows - 12 * i) rows part) kept' after seen shown' calm' (i + 1)
-        unfolding stepped rowOf boardCrossed rowCrossed kitOf
-        crossing-stands kept' carried mark after marks row part c m k x b r p =
-            stands kept' after seen shown' calm' part
-            (rw (b, kind, k, m, c, x, bytes-at, ptcs-at, turn-at, marker-at, own-at))
-            (p ∙ rw (kind, r, bytes-at, shown-at)) (rw (a .shows, length-mapI) ptcs-long) (λ z. votes-at)
+            → Stands first log n old kit (putMid (12 * i) (length rows - 12 * i) rows part) kept' after held' seen shown' calm' (i + 1)
+        unfolding stepped rowOf boardCrossed rowCrossed kitOf nextHeld
+        crossing-stands kept' held' carried mark after marks row part c m k x b hc hb r p =
+            stands kept' after held' seen shown' calm' part
+            (rw (b, kind, k, m, c, x, bytes-at, ptcs-at, turn-at, marker-at, own-at, hc, hb))
+            (p ∙ rw (kind, r, bytes-at, shown-at)) (rw (a .shows, length-mapI) ptcs-long) (rw hc coded-at, rw hb next-coded) (rw hb votes-at) (λ e. hb ∙ firm-at e ∙ sym hc)
             (calm-at kept' (ap (λ (y : Board). y .ptcs) b))

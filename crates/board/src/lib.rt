@@ -100,8 +100,12 @@ impl Board {
         ensures { λ r. ⌜ (r ≡ ran n self (now (log .entry))) × (now (rows .exit) ≡ rowsOf n self (now (log .entry)) ++ drop (12 * n) (now (rows .entry))) ⌝ }
     {
         let kit = Kit::of(self.settings);
+        let slots = kit.slots;
         let mut clock = self.clock;
-        let mut sight = Sight::first(self.turn);
+        let held = self.held;
+        let mut carried = held.carried;
+        let mut believed = held.believed;
+        let mut sight = Sight::first(self.turn, &kit.lanes, &carried, &believed);
         let mut shown = [0u8; 8];
         let mut calm = false;
         let mut i: usize = 0;
@@ -117,7 +121,17 @@ impl Board {
                 i += 1;
                 continue;
             }
-            let next = sight.next(kit.plan.at, kit.merger, &kit.slots, clock, calm, log, i);
+            let next = sight.next(
+                kit.plan.at,
+                &kit.lanes,
+                &slots,
+                clock,
+                calm,
+                &mut carried,
+                &mut believed,
+                log,
+                i,
+            );
             sight = next;
             let classes = sight.classes;
             let h = self.ptcs[(sight.turn.holder % 8) as usize];
@@ -145,6 +159,11 @@ impl Board {
         self.clock = clock;
         let turn = sight.turn;
         self.turn = turn;
+        let closing = Held {
+            carried: carried,
+            believed: believed,
+        };
+        self.held = closing;
         self
     }
 

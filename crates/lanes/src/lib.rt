@@ -3,7 +3,7 @@
 use status::Merger;
 ghost use mathlib.Core.Path.{_≡_};
 ghost use Prim.Native.Nat.{_≤_, _<_};
-ghost use Rattle.status.specs.Codes.{Coded};
+ghost use lib.ListN.{getD};
 ghost use Rattle.status.specs.support.Merger.{half};
 ghost use Rattle.lanes.specs.support.Lanes.{bitOf, inLane, inAll, rankOf, entryOf, tableOf, pairOf, lanesOf, topOf, classIn, laneClasses};
 
@@ -89,7 +89,7 @@ fn pair(t: &[u64; 656], codes: &[u8; 21], j: usize) -> u64
 }
 
 fn lanes(t: &[u64; 656], codes: &[u8; 21]) -> u64
-    requires { ⌜ Coded (now codes) ⌝ }
+    requires { ⌜ getD (now codes) 0 0 < 16 ⌝ }
     ensures { λ r. ⌜ r ≡ lanesOf (now (t .entry)) (now (codes .entry)) 20 ⌝ }
 {
     let gtfe = place(codes[0]);
@@ -118,7 +118,7 @@ fn class_in(lanes: u64, k: usize) -> u8
 
 // The classes of all eight controllers, by the codes of a record, its bytes 3 to 23.
 pub fn merge(t: &[u64; 656], codes: &[u8; 21]) -> [u8; 8]
-    requires { ⌜ Coded (now codes) ⌝ }
+    requires { ⌜ getD (now codes) 0 0 < 16 ⌝ }
     ensures { λ r. ⌜ r ≡ laneClasses (now (t .entry)) (now (codes .entry)) ⌝ }
 {
     let all = lanes(t, codes);

@@ -1,8 +1,9 @@
 // What the inputs are believed to carry (document 02, P1): a code counts when the same input carried it in two consecutive crossings.
 ghost use mathlib.Core.Path.{_≡_};
 ghost use mathlib.Core.Bool.{true};
-ghost use Prim.Native.Nat.{_<_};
-ghost use lib.ListN.{length};
+ghost use Prim.Native.Nat.{ℕ, _<_};
+ghost use lib.ListN.{length, getD};
+ghost use Rattle.words.specs.Same.{sameBytes};
 ghost use Rattle.steady.specs.Steady.{steady, steadyByte, believedOf};
 ghost use Rattle.steady.specs.Held.{freshHeld, soundHeld};
 ghost use Rattle.steady.specs.support.News.{newsOf};
@@ -40,6 +41,14 @@ fn believe(carried: &mut [u8; 21], believed: &mut [u8; 21], codes: &[u8])
         carried[k] = now;
         k += 1;
     }
+}
+
+// Whether all that was carried is believed. Lent codes are bytes, which is told on: two codes in a byte are 0 to 15 then.
+pub fn is_firm(carried: &[u8], believed: &[u8]) -> bool
+    requires { ⌜ (length (now carried) ≡ 21) × (length (now believed) ≡ 21) ⌝ }
+    ensures { λ r. ⌜ (r ≡ sameBytes 21 (now (carried .entry)) (now (believed .entry))) × ((n : ℕ) → getD (now (carried .entry)) n 0 < 256) × ((n : ℕ) → getD (now (believed .entry)) n 0 < 256) ⌝ }
+{
+    words::same(carried, believed)
 }
 
 // What following a crossing's codes tells: whether the believed ones stayed, and whether all that it carried are believed now.

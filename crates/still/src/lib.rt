@@ -10,9 +10,9 @@ use settings::Rules;
 use settings::Schedule;
 ghost use mathlib.Core.Path.{_≡_};
 ghost use mathlib.Core.Bool.{true, not, _||_};
-ghost use Prim.Native.Nat.{_+_, _*_, _%_, _≤_};
+ghost use Prim.Native.Nat.{ℕ, _+_, _*_, _%_, _<_, _≤_};
 ghost use lib.Dec.{eqb};
-ghost use lib.ListN.{length};
+ghost use lib.ListN.{length, getD};
 ghost use Rattle.status.specs.Codes.{Coded};
 ghost use Rattle.lanes.specs.support.Lanes.{laneClasses};
 ghost use Rattle.words.specs.Same.{sameBytes};
@@ -69,13 +69,8 @@ pub fn next_due(due: u8, k: usize) -> usize
 }
 
 // The classes: those of the crossing before, where the believed codes stayed.
-fn classes_of(
-    table: &[u64; 656],
-    before: [u8; 8],
-    stays: bool,
-    believed: &[u8; 21],
-) -> [u8; 8]
-    requires { ⌜ (Coded (now believed)) × (stays ≡ true → before ≡ laneClasses (now table) (now believed)) ⌝ }
+fn classes_of(table: &[u64; 656], before: [u8; 8], stays: bool, believed: &[u8; 21]) -> [u8; 8]
+    requires { ⌜ (getD (now believed) 0 0 < 16) × (stays ≡ true → before ≡ laneClasses (now table) (now believed)) ⌝ }
     ensures { λ r. ⌜ r ≡ laneClasses (now (table .entry)) (now (believed .entry)) ⌝ }
 {
     if stays {
@@ -85,16 +80,17 @@ fn classes_of(
 }
 
 impl Sight {
-    // Before the first record: these codes are believed.
-    pub fn first(turn: Turn, table: &[u64; 656], believed: &[u8; 21]) -> Sight
-        requires { ⌜ Coded (now believed) ⌝ }
-        ensures { λ r. ⌜ r ≡ firstSight turn (now (table .entry)) (now (believed .entry)) ⌝ }
+    // Before the first record, by the codes that are held. That lent codes are bytes is told on.
+    pub fn first(turn: Turn, table: &[u64; 656], carried: &[u8; 21], believed: &[u8; 21]) -> Sight
+        requires { ⌜ (length (now carried) ≡ 21) × (length (now believed) ≡ 21) × (getD (now believed) 0 0 < 16) ⌝ }
+        ensures { λ r. ⌜ (r ≡ firstSight turn (now (table .entry)) (now (carried .entry)) (now (believed .entry))) × ((n : ℕ) → getD (now (carried .entry)) n 0 < 256) × ((n : ℕ) → getD (now (believed .entry)) n 0 < 256) ⌝ }
     {
+        let firm = steady::is_firm(carried, believed);
         let classes = lanes::merge(table, believed);
         Sight {
             turn: turn,
             classes: classes,
-            firm: false,
+            firm: firm,
             marker: false,
             requests: 0,
             due: 0,

@@ -17,9 +17,12 @@ fresh-requires c κs =
 fresh-requires-2 : tie.Need-fresh-requires-2
 fresh-requires-2 c κs = search needs
 
+fresh-requires-3 : tie.Need-fresh-requires-3
+fresh-requires-3 c κs = search needs
+
 returns : tie.Need-returns
 unfolding freshBoard
-returns c = rw (c .fresh2 .ensures, c .before .fresh .ensures, c .before .before .before .slots-of .ensures)
+returns c = rw (c .fresh3 .ensures, c .before .fresh2 .ensures, c .before .before .fresh .ensures, c .before .before .before .before .slots-of .ensures)
 
 pub from-checked-spec : {M : Type 1} → statement M
-from-checked-spec = tie.close (tie.spec slots-of-requires fresh-requires fresh-requires-2 returns)
+from-checked-spec = tie.close (tie.spec slots-of-requires fresh-requires fresh-requires-2 fresh-requires-3 returns)

@@ -23,9 +23,9 @@ use Rattle.records.specs.Records.{markerIn, askedIn, codesIn}
 use Rattle.still.specs.declared.Sight.{Sight}
 use Rattle.still.specs.support.Still.{dueOf}
 
-abbrev pub firstSight : (turn : Turn) (table believed : List ℕ) → Sight
-firstSight turn table believed =
-    record { turn = turn; classes = laneClasses table believed; firm = false; marker = false; requests = 0; due = 0 }
+abbrev pub firstSight : (turn : Turn) (table carried believed : List ℕ) → Sight
+firstSight turn table carried believed =
+    record { turn = turn; classes = laneClasses table believed; firm = sameBytes 21 carried believed; marker = false; requests = 0; due = 0 }
 
 -- where the believed codes stay, so do the classes: it is those that a still crossing goes by
 unfoldable pub sightOf : (at : Schedule) (table slots : List ℕ) (clock : Clock) (turn : Turn) (calm : Bool) (carried believed rec : List ℕ) → Sight

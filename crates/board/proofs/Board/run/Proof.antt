@@ -9,6 +9,10 @@ use borrow.Author.Needs.{needs}
 use lib.ListN.{length, getD, length-take, length-drop}
 use Rattle.laws.proofs.Bools.{one-le}
 use Rattle.laws.proofs.Tests.{mapped-long}
+use Rattle.status.specs.Codes.{Coded}
+use Rattle.steady.specs.declared.Held.{Held}
+use Rattle.steady.specs.Held.{soundHeld}
+use Rattle.steady.proofs.Laws.{carried-low, believed-low}
 use Rattle.throttle.specs.Marks.{passed}
 use Rattle.ptc.specs.Fresh.{freshPtc}
 use Rattle.records.specs.Records.{recAt, isCrossing, askedIn}
@@ -18,36 +22,40 @@ use Rattle.still.proofs.Passing.{next-after}
 use Rattle.still.proofs.Acting.{Quiet, Acting, Acted, acting-first, acting-at, acting-next, acting-last}
 use Rattle.board.specs.declared.Board.{Board}
 use Rattle.board.specs.Crossing.{withPtcs}
+use Rattle.board.proofs.Settled.{sound-parts}
 use Rattle.board.proofs.Keeps.{Fit}
 use Rattle.board.proofs.Turn.{Stands, Begun, stands-first, ptcs-long, crossing-kind, command-at, named, command-stands, crossing-room, clock-asked, next-asked, rules-asked, room-asked, due-fits, quiet-at, shown-fits, crossing-stands}
 use Rattle.board.proofs.Board.run.Statement.{statement}
 use Rattle.board.proofs.Board.run.Tie as tie
 
 abbrev Inv-loop2 : tie.InvT-loop2
-Inv-loop2 log n rows self₀ kit clock sight shown₀ calm₀ i classes scene bytes₀ k₀ self shown calm bytes k =
+Inv-loop2 log n rows self₀ kit slots clock carried believed sight shown₀ calm₀ i classes scene bytes₀ k₀ self shown calm bytes k =
     (self ≡ withPtcs self₀ (self .ptcs))
     × (Acting (kit .plan) scene (sight .classes) (sight .requests) (sight .due) (self₀ .ptcs) shown₀ k (self .ptcs) bytes shown calm)
 
 abbrev μ-loop2 : tie.MeasureT-loop2
-μ-loop2 log n rows self₀ kit clock sight shown₀ calm₀ i classes scene bytes₀ k₀ self shown calm bytes k = 8 - k
+μ-loop2 log n rows self₀ kit slots clock carried believed sight shown₀ calm₀ i classes scene bytes₀ k₀ self shown calm bytes k = 8 - k
 
 abbrev Inv-loop : tie.InvT-loop
-Inv-loop log n rows₀ self₀ kit clock₀ sight₀ shown₀ calm₀ i₀ rows self clock sight shown calm i =
-    Stands self₀ log n rows₀ kit rows self clock sight shown calm i
+Inv-loop log n rows₀ self₀ kit slots clock₀ carried₀ believed₀ sight₀ shown₀ calm₀ i₀ rows self clock carried believed sight shown calm i =
+    Stands self₀ log n rows₀ kit rows self clock (record { carried = carried; believed = believed }) sight shown calm i
 
 abbrev μ-loop : tie.MeasureT-loop
-μ-loop log n rows₀ self₀ kit clock₀ sight₀ shown₀ calm₀ i₀ rows self clock sight shown calm i = n - i
+μ-loop log n rows₀ self₀ kit slots clock₀ carried₀ believed₀ sight₀ shown₀ calm₀ i₀ rows self clock carried believed sight shown calm i = n - i
 
 -- ---- the ways back: to the turn's begin, to where the record was found a crossing, and to where it was looked at
 
 abbrev start : tie.In-loop Inv-loop2 μ-loop2 Inv-loop μ-loop → tie.Start Inv-loop2 μ-loop2 Inv-loop μ-loop
-start c = c .before .before .before .before .before .before .before .before .before
+start c = c .before .before .before .before .before .before .before .before .before .before .before .before .before .before .before .before .before
+
+abbrev making : tie.In-loop Inv-loop2 μ-loop2 Inv-loop μ-loop → tie.After-of Inv-loop2 μ-loop2 Inv-loop μ-loop
+making c = c .before .before .before .before .before .before .before .before .before .before .before .before .before
 
 abbrev obeying : tie.After-command Inv-loop2 μ-loop2 Inv-loop μ-loop → tie.Then1 Inv-loop2 μ-loop2 Inv-loop μ-loop
 obeying c = c .before .before .before .before .before
 
 abbrev crossing : tie.After-next Inv-loop2 μ-loop2 Inv-loop μ-loop → tie.Else1 Inv-loop2 μ-loop2 Inv-loop μ-loop
-crossing c = c .before .before .before .before .before
+crossing c = c .before .before .before .before .before .before .before
 
 abbrev looking : tie.After-scene Inv-loop2 μ-loop2 Inv-loop μ-loop → tie.After-next Inv-loop2 μ-loop2 Inv-loop μ-loop
 looking c = c .before .before .before .before .before .before .before .before
@@ -63,10 +71,30 @@ acting c = c .before .before .before .before
 fit : (c : tie.Start Inv-loop2 μ-loop2 Inv-loop μ-loop) → Fit (c .args .t1)
 fit c = record { ptcs = search (needs, mapped-long); marks = search needs; sound = c .pre .0 }
 
+module _ (c : tie.Start Inv-loop2 μ-loop2 Inv-loop μ-loop) where
+  abbrev first-held : Held
+  first-held = c .args .t1 .held
+
+  held-sound : soundHeld first-held ≡ true
+  held-sound = sound-parts (c .args .t1) (c .pre .0) .held
+
+  carried-long : length (first-held .carried) ≡ 21
+  carried-long = search needs
+
+  believed-long : length (first-held .believed) ≡ 21
+  believed-long = search needs
+
+  coded-at : ((n : ℕ) → getD (first-held .carried) n 0 < 256) → ((n : ℕ) → getD (first-held .believed) n 0 < 256)
+      → (Coded (first-held .carried)) × (Coded (first-held .believed))
+  coded-at p q = (
+    record { long = carried-long; gtfe = carried-low first-held held-sound; bytes = p },
+    record { long = believed-long; gtfe = believed-low first-held held-sound; bytes = q },
+  )
+
 begun : (c : tie.In-loop Inv-loop2 μ-loop2 Inv-loop μ-loop) →
     let a = start c .args in
     let l = c .before .loop in
-    Begun (a .t1) (a .log .now) (a .n) (a .rows .now) (c .before .before .before .before .before .of .result) (l .rows) (l .self) (l .clock) (l .sight) (l .shown) (l .calm) (l .i)
+    Begun (a .t1) (a .log .now) (a .n) (a .rows .now) (making c .of .result) (l .rows) (l .self) (l .clock) (record { carried = l .carried; believed = l .believed }) (l .sight) (l .shown) (l .calm) (l .i)
 begun c =
     let s = start c in
     record {
@@ -75,24 +103,25 @@ begun c =
       room = s .pre .2;
       formed = s .pre .3;
       life = s .pre .4;
-      bytes = λ n. c .before .before .before .before .before .before .before .before .shared-slice-known .given n .fits;
-      made = c .before .before .before .before .before .of .ensures;
+      bytes = λ n. making c .before .before .before .shared-slice-known .given n .fits;
+      made = making c .of .ensures;
       less = c .loop-test .taken;
       here = c .before .loop .inv;
     }
 
 fits : (c : tie.In-loop Inv-loop2 μ-loop2 Inv-loop μ-loop) →
-    (12 * c .before .loop .i < 2 ^ 64) × (12 * c .before .loop .i + 12 ≤ length (c .before .loop .rows)) × (24 * c .before .loop .i + 24 ≤ length (start c .args .log .now))
+    (24 * c .before .loop .i + 24 < 2 ^ 64) × (12 * c .before .loop .i + 12 ≤ length (c .before .loop .rows)) × (24 * c .before .loop .i + 24 ≤ length (start c .args .log .now))
 fits c =
     let t = begun c in
     let s : 12 * c .before .loop .i + 12 ≤ length (c .before .loop .rows) = omega (arith, t .less, t .room, t .here .long) in
-    (search needs, s, omega (arith, t .less, t .long))
+    let l : 24 * c .before .loop .i + 24 ≤ length (start c .args .log .now) = omega (arith, t .less, t .long) in
+    (search (needs, start c .good .1 .0, l), s, l)
 
 abbrev turn : tie.After-scene Inv-loop2 μ-loop2 Inv-loop μ-loop → tie.In-loop Inv-loop2 μ-loop2 Inv-loop μ-loop
 turn c = crossing (looking c) .before .before
 
 abbrev withMarks : List ℕ → Board → Board
-withMarks marks b = record { settings = b .settings; clock = b .clock; turn = b .turn; ptcs = b .ptcs; marks = marks }
+withMarks marks b = record { settings = b .settings; clock = b .clock; turn = b .turn; ptcs = b .ptcs; held = b .held; marks = marks }
 
 obeyed : (c : tie.Then1 Inv-loop2 μ-loop2 Inv-loop μ-loop) → isCrossing (recAt (start (c .before .before) .args .log .now) (c .before .before .before .loop .i)) ≡ false
 obeyed c = command-at (begun (c .before .before)) (c .if1 .taken)
@@ -113,12 +142,12 @@ module _ (s : tie.After-scene Inv-loop2 μ-loop2 Inv-loop μ-loop) where
   wide-at = turn s .before .loop .inv .wide
 
   low-at : looking s .next .result .due < 256
-  low-at = due-fits (begun (turn s)) (crossed-at (crossing (looking s))) _ (looking s .next .ensures) _ (s .scene .ensures)
+  low-at = due-fits (begun (turn s)) (crossed-at (crossing (looking s))) _ (looking s .next .ensures .0) _ (s .scene .ensures)
 
   quiet : (j : ℕ) → j < 8 → askedIn (looking s .next .result .due) j ≡ false
-      → Quiet (turn s .before .before .before .before .before .of .result .plan) (s .scene .result) (looking s .next .result .classes) (looking s .next .result .requests)
+      → Quiet (making (turn s) .of .result .plan) (s .scene .result) (looking s .next .result .classes) (looking s .next .result .requests)
       (looking s .next .result .due) (turn s .before .loop .self .ptcs) (turn s .before .loop .shown) j
-  quiet = quiet-at (begun (turn s)) (crossed-at (crossing (looking s))) _ (looking s .next .ensures) _ (s .scene .ensures)
+  quiet = quiet-at (begun (turn s)) (crossed-at (crossing (looking s))) _ (looking s .next .ensures .0) _ (s .scene .ensures)
 
 -- the controller that was copied out is as it was before the crossing
 copied : (l : tie.In-loop2 Inv-loop2 μ-loop2 Inv-loop μ-loop) → getD (l .before .loop2 .self .ptcs) (l .before .loop2 .k) freshPtc ≡ getD (turn (seeing l) .before .loop .self .ptcs) (l .before .loop2 .k) freshPtc
@@ -129,14 +158,14 @@ copied l =
 told : (c : tie.After-crossed Inv-loop2 μ-loop2 Inv-loop μ-loop) →
     let l = acting c in
     let n = looking (seeing l) .next .result in
-    c .crossed .result ≡ actOf (turn (seeing l) .before .before .before .before .before .of .result .plan) (seeing l .scene .result) (n .classes) (n .requests) (l .before .loop2 .k) (getD (l .before .loop2 .self .ptcs) (l .before .loop2 .k) freshPtc)
+    c .crossed .result ≡ actOf (making (turn (seeing l)) .of .result .plan) (seeing l .scene .result) (n .classes) (n .requests) (l .before .loop2 .k) (getD (l .before .loop2 .self .ptcs) (l .before .loop2 .k) freshPtc)
 told c = acted _ _ _ _ _ _ _ _ (c .before .before .asked .ensures) (c .crossed .ensures)
 
 acted-at : (c : tie.After-loop2 Inv-loop2 μ-loop2 Inv-loop μ-loop) →
     let s = c .before .before .before in
     let n = looking s .next .result in
     let l = c .before .loop2 in
-    Acted (turn s .before .before .before .before .before .of .result .plan) (s .scene .result) (n .classes) (n .requests) (n .due) (turn s .before .loop .self .ptcs) (turn s .before .loop .shown)
+    Acted (making (turn s) .of .result .plan) (s .scene .result) (n .classes) (n .requests) (n .due) (turn s .before .loop .self .ptcs) (turn s .before .loop .shown)
     (l .self .ptcs) (l .bytes) (l .shown) (l .calm)
 acted-at c =
     let s = c .before .before .before in
@@ -148,10 +177,10 @@ of-requires : tie.Need-of-requires Inv-loop2 μ-loop2 Inv-loop μ-loop
 of-requires c κs = search needs
 
 first-requires : tie.Need-first-requires Inv-loop2 μ-loop2 Inv-loop μ-loop
-first-requires c κs = search needs
+first-requires c κs = let a = c .before .before .before .before .before .before .before .before .before .before .before .before .before .before in (carried-long a, believed-long a, believed-low (first-held a) (held-sound a))
 
 loop-holds : tie.Need-loop-holds Inv-loop2 μ-loop2 Inv-loop μ-loop
-loop-holds c = stands-first _ _ _ _ _ _ (c .first .ensures)
+loop-holds c = stands-first _ _ _ _ _ _ (coded-at (c .before .before .before .before .before .before .before .before .before .before .before .before .before .before .before) (c .first .ensures .1) (c .first .ensures .2)) (c .first .ensures .0)
 
 mul-if1 : tie.Need-mul-if1 Inv-loop2 μ-loop2 Inv-loop μ-loop
 mul-if1 c = search (needs, fits c)
@@ -226,7 +255,7 @@ loop-again c =
     command-stands (begun (t .before .before)) _ _ _ (obeyed t) (o .command .ensures) (c .before .before .before .command-row .ensures) (c .before .before .put-row .ensures)
 
 next-requires : tie.Need-next-requires Inv-loop2 μ-loop2 Inv-loop μ-loop
-next-requires c κs = next-asked (begun (c .before .before .before .before .before .before)) (crossed-at (c .before .before .before .before))
+next-requires c κs = next-asked (begun (c .before .before .before .before .before .before .before .before)) (crossed-at (c .before .before .before .before .before .before))
 
 cast-h : tie.Need-cast-h Inv-loop2 μ-loop2 Inv-loop μ-loop
 cast-h c = search needs
@@ -238,7 +267,7 @@ element-copy-out-h : tie.Need-element-copy-out-h Inv-loop2 μ-loop2 Inv-loop μ-
 element-copy-out-h c = search needs
 
 scene-requires : tie.Need-scene-requires Inv-loop2 μ-loop2 Inv-loop μ-loop
-scene-requires c κs = rules-asked (begun (c .before .before .before .before .before .before .before .before .before .before .before .before .before .before)) (crossed-at (c .before .before .before .before .before .before .before .before .before .before .before .before))
+scene-requires c κs = rules-asked (begun (c .before .before .before .before .before .before .before .before .before .before .before .before .before .before .before .before)) (crossed-at (c .before .before .before .before .before .before .before .before .before .before .before .before .before .before))
 
 next-due-requires : tie.Need-next-due-requires Inv-loop2 μ-loop2 Inv-loop μ-loop
 next-due-requires c κs = search needs
@@ -336,13 +365,13 @@ clock-after-requires c κs =
     clock-asked (begun (turn s)) (crossed-at (crossing (looking s)))
 
 mul-put-row-2 : tie.Need-mul-put-row-2 Inv-loop2 μ-loop2 Inv-loop μ-loop
-mul-put-row-2 c = search (needs, fits (c .before .before .before .before .before .before .before .before .before .before .before .before .before .before .before .before .before .before .before .before .before .before .before))
+mul-put-row-2 c = search (needs, fits (c .before .before .before .before .before .before .before .before .before .before .before .before .before .before .before .before .before .before .before .before .before .before .before .before .before))
 
 sub-put-row-2 : tie.Need-sub-put-row-2 Inv-loop2 μ-loop2 Inv-loop μ-loop
-sub-put-row-2 c = search (needs, fits (c .before .before .before .before .before .before .before .before .before .before .before .before .before .before .before .before .before .before .before .before .before .before .before))
+sub-put-row-2 c = search (needs, fits (c .before .before .before .before .before .before .before .before .before .before .before .before .before .before .before .before .before .before .before .before .before .before .before .before .before))
 
 part-put-row-start-2 : tie.Need-part-put-row-start-2 Inv-loop2 μ-loop2 Inv-loop μ-loop
-part-put-row-start-2 c = search (needs, fits (c .before .before .before .before .before .before .before .before .before .before .before .before .before .before .before .before .before .before .before .before .before .before .before))
+part-put-row-start-2 c = search (needs, fits (c .before .before .before .before .before .before .before .before .before .before .before .before .before .before .before .before .before .before .before .before .before .before .before .before .before))
 
 part-put-row-end-2 : tie.Need-part-put-row-end-2 Inv-loop2 μ-loop2 Inv-loop μ-loop
 part-put-row-end-2 c = search needs
@@ -351,25 +380,25 @@ crossing-row-requires : tie.Need-crossing-row-requires Inv-loop2 μ-loop2 Inv-lo
 crossing-row-requires c κs =
     let l = c .before .before .before .before .before .before in
     let s = l .before .before .before in
-    shown-fits (begun (turn s)) (crossed-at (crossing (looking s))) _ (looking s .next .ensures) _ (s .scene .ensures) _ _ _ _ (acted-at l)
+    shown-fits (begun (turn s)) (crossed-at (crossing (looking s))) _ (looking s .next .ensures .0) _ (s .scene .ensures) _ _ _ _ (acted-at l)
 
 put-row-requires-2 : tie.Need-put-row-requires-2 Inv-loop2 μ-loop2 Inv-loop μ-loop
-put-row-requires-2 c κs = rw (length-take, length-drop) (omega (arith, fits (c .before .before .before .before .before .before .before .before .before .before .before .before .before .before .before .before .before .before .before .before .before .before .before .before .before)))
+put-row-requires-2 c κs = rw (length-take, length-drop) (omega (arith, fits (c .before .before .before .before .before .before .before .before .before .before .before .before .before .before .before .before .before .before .before .before .before .before .before .before .before .before .before)))
 
 add-i-2 : tie.Need-add-i-2 Inv-loop2 μ-loop2 Inv-loop μ-loop
-add-i-2 c = search (needs, fits (c .before .before .before .before .before .before .before .before .before .before .before .before .before .before .before .before .before .before .before .before .before .before .before .before .before .before .before .before))
+add-i-2 c = search (needs, fits (c .before .before .before .before .before .before .before .before .before .before .before .before .before .before .before .before .before .before .before .before .before .before .before .before .before .before .before .before .before .before))
 
 loop-less-2 : tie.Need-loop-less-2 Inv-loop2 μ-loop2 Inv-loop μ-loop
-loop-less-2 c = search (needs, (c .before .before .before .before .before .before .before .before .before .before .before .before .before .before .before .before .before .before .before .before .before .before .before .before .before .before .before .before) .loop-test .taken)
+loop-less-2 c = search (needs, (c .before .before .before .before .before .before .before .before .before .before .before .before .before .before .before .before .before .before .before .before .before .before .before .before .before .before .before .before .before .before) .loop-test .taken)
 
 loop-again-2 : tie.Need-loop-again-2 Inv-loop2 μ-loop2 Inv-loop μ-loop
 loop-again-2 c =
     let l = c .before .before .before .before .before .before .before .before .before .before in
     let s = l .before .before .before in
     let p = c .before .before .before .before .before .before in
-    crossing-stands (begun (turn s)) (crossed-at (crossing (looking s))) _ (looking s .next .ensures) _ (s .scene .ensures) _ _ _ _ (acted-at l) _ _ _ _ _ _ _
+    crossing-stands (begun (turn s)) (crossed-at (crossing (looking s))) _ (looking s .next .ensures .0) _ (s .scene .ensures) _ _ _ _ (acted-at l) _ _ _ _ _ _ _ _
     (c .before .before .before .before .before .before .before .before .before .carries .ensures) (c .before .before .before .before .before .before .before .before .one .ensures) (p .pass .ensures ∙ ap (λ (b : Board). passed (b .marks) (turn s .before .loop .clock .crossings) (p .before .before .one .result)) (l .before .loop2 .inv .0))
-    (c .before .before .before .before .before .clock-after .ensures) (ap (withMarks _) (l .before .loop2 .inv .0)) (c .before .before .before .crossing-row .ensures) (c .before .before .put-row2 .ensures)
+    (c .before .before .before .before .before .clock-after .ensures) (ap (withMarks _) (l .before .loop2 .inv .0)) (looking s .next .ensures .2) (looking s .next .ensures .1) (c .before .before .before .crossing-row .ensures) (c .before .before .put-row2 .ensures)
 
 same-length : tie.Need-same-length Inv-loop2 μ-loop2 Inv-loop μ-loop
 same-length c = search needs
@@ -377,7 +406,7 @@ same-length c = search needs
 returns : tie.Need-returns Inv-loop2 μ-loop2 Inv-loop μ-loop
 returns c =
     let l = c .before .before .loop in
-    let e : l .i ≡ c .before .before .before .before .before .before .before .before .before .before .args .n = omega (arith, c .before .loop-test .left, l .inv .most) in
+    let e : l .i ≡ c .before .before .before .before .before .before .before .before .before .before .before .before .before .before .before .before .before .before .args .n = omega (arith, c .before .loop-test .left, l .inv .most) in
     (rw (← e) (l .inv .board), rw (← e) (l .inv .laidOut))
 
 pub run-spec : {M : Type 1} → statement M

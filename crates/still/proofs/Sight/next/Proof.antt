@@ -3,7 +3,7 @@
 use mathlib.Core.Path.{_≡_, ap, sym, _∙_}
 use mathlib.Core.Bool.{Bool, true, _&&_}
 use mathlib.Core.List.{List}
-use Prim.Native.Nat.{ℕ, _+_, _*_, _-_}
+use Prim.Native.Nat.{ℕ, _+_, _*_, _-_, _<_}
 use native.Mathlib.Omega.{arith}
 use borrow.Author.Needs.{needs}
 use lib.Dec.{eqb}
@@ -37,14 +37,14 @@ module _ (carried believed log : List ℕ) (i : ℕ) (n : Coded (codesIn (recAt 
   lent-long = ap length (codes-lent log i) ∙ n .long
 
   module _ (table after classes : List ℕ) (news : News) (told : news ≡ newsOf carried believed (lent log i)) (moved : after ≡ believedOf carried believed (lent log i)) where
-    merge-asked : classes ≡ laneClasses table believed → (Coded after) × (news .stays ≡ true → classes ≡ laneClasses table after)
+    merge-asked : classes ≡ laneClasses table believed → (getD after 0 0 < 16) × (news .stays ≡ true → classes ≡ laneClasses table after)
     unfolding newsOf
     merge-asked before =
         let is : after ≡ believedOf carried believed (codesIn (recAt log i)) = moved ∙ rw (codes-lent log i) in (
-          rw is (believed-coded carried believed (codesIn (recAt log i)) c b n),
+          rw is (believed-coded carried believed (codesIn (recAt log i)) c b n .gtfe),
           λ e.
-          let same = same-lists believed (believedOf carried believed (lent log i)) 21 (b .long) (believed-long carried believed (lent log i) ∙ b .long) (sym (ap (λ (x : News). x .stays) told) ∙ e) in
-          before ∙ ap (laneClasses table) (same ∙ sym moved),
+              let same = same-lists believed (believedOf carried believed (lent log i)) 21 (b .long) (believed-long carried believed (lent log i) ∙ b .long) (sym (ap (λ (x : News). x .stays) told) ∙ e) in
+              before ∙ ap (laneClasses table) (same ∙ sym moved),
         )
 
 sight-is : (at : Schedule) (table slots : List ℕ) (clock : Clock) (old : Turn) (calm : Bool) (carried believed log : List ℕ) (i : ℕ) (turn : Turn) (classes : List ℕ) (news : News) (after : List ℕ)
