@@ -12,6 +12,8 @@ use Rattle.report.proofs.Fits.{report-fits}
 use Rattle.cut.proofs.Program.{program}
 use Rattle.pieces.proofs.Pieces.{pieces}
 use Rattle.pieces.proofs.Printing.{printing}
+use Rattle.bounce.proofs.Holds.{holding}
+use Rattle.bounce.proofs.Bounce.{bounce, never-twice}
 use Rattle.slots.proofs.Slots.{slots}
 use Rattle.slots.proofs.Rounds.{rounds}
 use Rattle.programs.proofs.Programs.{no-empty-program}
@@ -34,5 +36,8 @@ promises =
       report-fits = report-fits;
       slots = slots;
       rounds = rounds;
+      holding = holding;
+      never-twice = never-twice;
+      bounce = bounce;
       no-empty-program = no-empty-program;
     }

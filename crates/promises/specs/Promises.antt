@@ -18,6 +18,8 @@ use Rattle.report.specs.Fits.{ReportFits}
 use Rattle.cut.specs.Program.{Program}
 use Rattle.pieces.specs.Pieces.{Pieces}
 use Rattle.pieces.specs.Printing.{Printing}
+use Rattle.bounce.specs.Input.{Holding}
+use Rattle.bounce.specs.Bounce.{Bounce, NeverTwice}
 use Rattle.slots.specs.Slots.{Slots}
 use Rattle.slots.specs.Rounds.{Rounds}
 use Rattle.programs.specs.Programs.{NoEmptyProgram}
@@ -58,5 +60,10 @@ pub record Promises : Type 0 where
   -- the number and the holder that the desk goes by are those that settings and markers give by counting, and each hold lasts its orbits
   pub slots : Slots
   pub rounds : (slots : List ℕ) → Rounds slots
+  -- document 02, P1: what is believed of an input is told by its own codes in the records; one that never carries the same new code in two
+  -- consecutive crossings changes nothing, nor do codes that come and go while another stays believed
+  pub holding : Holding
+  pub never-twice : NeverTwice
+  pub bounce : Bounce
   -- and no program without work meets the contracts
   pub no-empty-program : NoEmptyProgram

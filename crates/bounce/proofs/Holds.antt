@@ -1,0 +1,123 @@
+-- What a board holds is what the records tell, of each input by itself.
+-- By induction on the records: the two nibbles of a byte are believed each by itself, and the GTFE codes of a sound board are nibbles.
+use mathlib.Core.Path.{_≡_, refl, _∙_}
+use mathlib.Core.Logic.{⊎-elim}
+use mathlib.Core.Bool.{true, false}
+use mathlib.Core.List.{List}
+use Prim.Native.Nat.{ℕ, zero, suc, _+_, _/_, _%_, _≤_, _<_}
+use native.Mathlib.Omega.{arith}
+use borrow.Author.Tests.{eq-eqb, ne-eqb}
+use lib.Dec.{eqb}
+use lib.ListN.{length, getD, getD-replicate}
+use Rattle.laws.proofs.Bools.{if-has}
+use Rattle.laws.proofs.Tests.{either, same-or-not}
+use Rattle.settings.specs.declared.Settings.{Settings}
+use Rattle.status.specs.Codes.{codeAt}
+use Rattle.steady.specs.declared.Held.{Held}
+use Rattle.steady.specs.Steady.{steady, steadyByte, believedOf}
+use Rattle.steady.specs.Held.{nextHeld, freshHeld, soundHeld}
+use Rattle.steady.proofs.Laws.{twice, byte-low, byte-high, believed-long, believed-get, carried-low, believed-low}
+use Rattle.records.specs.Records.{recAt, isCrossing, codesIn, well}
+use Rattle.records.specs.Refusal.{recordsIn}
+use Rattle.records.proofs.Laws.{gtfe-low}
+use Rattle.board.specs.declared.Board.{Board}
+use Rattle.board.specs.Crossing.{boardCrossed}
+use Rattle.board.specs.Command.{boardCommanded}
+use Rattle.board.specs.Run.{stepped, ran}
+use Rattle.board.specs.Fresh.{freshBoard}
+use Rattle.board.proofs.Settled.{sound-parts}
+use Rattle.logbook.specs.Whole.{Taken}
+use Rattle.logbook.proofs.Ground.{ground, fit-at, well-here}
+use Rattle.bounce.specs.Input.{codeBefore, believedBefore, Holding}
+
+-- a byte with one code in it
+alone : (c b n : ℕ) → c < 16 → b < 16 → n < 16 → steadyByte c b n ≡ steady c b n
+alone c b n p q r =
+    let low : (m : ℕ) → m < 16 → m % 16 ≡ m = λ m h. omega arith in
+    let high : (m : ℕ) → m < 16 → m / 16 ≡ 0 = λ m h. omega arith in
+    let here : steadyByte c b n % 16 ≡ steady c b n = byte-low c b n ∙ rw (low c p, low b q, low n r) in
+    let none : steadyByte c b n / 16 ≡ 0 = byte-high c b n ∙ rw (high c p, high b q, high n r) (twice 0 0) in
+    omega arith
+
+-- each input by itself, whatever else the bytes hold
+module _ (c b n : List ℕ) (long : length b ≡ 21) (p : getD c 0 0 < 16) (q : getD b 0 0 < 16) (r : getD n 0 0 < 16) where
+  at-byte : (k : ℕ) → k < 21 → getD (believedOf c b n) k 0 ≡ steadyByte (getD c k 0) (getD b k 0) (getD n k 0)
+  at-byte k h = believed-get c b n k (rw long h)
+
+  by-itself : (y : ℕ) → y < 41 → codeAt (believedOf c b n) y ≡ steady (codeAt c y) (codeAt b y) (codeAt n y)
+  unfolding codeAt
+  by-itself y h =
+      ⊎-elim
+      (λ (e : y ≡ 40). rw (eq-eqb y 40 e, at-byte 0 (omega arith)) (alone (getD c 0 0) (getD b 0 0) (getD n 0 0) p q r))
+      (λ (e : y ≡ 40 → ⊥).
+      let k = 1 + y / 2 in
+      let inside : k < 21 = omega arith in
+      ⊎-elim
+      (λ (t : eqb (y % 2) 0 ≡ true). rw (ne-eqb y 40 e, t, at-byte k inside) (byte-low (getD c k 0) (getD b k 0) (getD n k 0)))
+      (λ (t : eqb (y % 2) 0 ≡ false). rw (ne-eqb y 40 e, t, at-byte k inside) (byte-high (getD c k 0) (getD b k 0) (getD n k 0)))
+      (either (eqb (y % 2) 0)))
+      (same-or-not y 40)
+
+-- held codes that are those told before record i
+pub record Telling (log : List ℕ) (i : ℕ) (h : Held) : Type 0 where
+  pub long : length (h .believed) ≡ 21
+  pub carried : (y : ℕ) → y < 41 → codeAt (h .carried) y ≡ codeBefore log y i
+  pub believed : (y : ℕ) → y < 41 → codeAt (h .believed) y ≡ believedBefore log y i
+
+none-yet : (y : ℕ) → y < 41 → codeAt (freshHeld .carried) y ≡ 0
+unfolding freshHeld codeAt
+none-yet y h =
+    ⊎-elim
+    (λ (e : y ≡ 40). rw (eq-eqb y 40 e))
+    (λ (e : y ≡ 40 → ⊥).
+    let inside : 1 + y / 2 < 21 = omega arith in
+    rw (ne-eqb y 40 e, getD-replicate {A = ℕ} 21 (1 + y / 2) 0 0 inside)
+    (if-has (λ (n : ℕ). n ≡ 0) (eqb (y % 2) 0) (0 % 16) (0 / 16) (λ t. refl) (λ t. refl)))
+    (same-or-not y 40)
+
+told-fresh : (log : List ℕ) → Telling log 0 freshHeld
+unfolding freshHeld codeBefore believedBefore
+told-fresh log = record { long = refl; carried = none-yet; believed = none-yet }
+
+module _ (log : List ℕ) (i : ℕ) (b : Board) (sound : soundHeld (b .held) ≡ true) (w : well (recAt log i) ≡ true) (g : Telling log i (b .held)) where
+  abbrev rec : List ℕ
+  rec = recAt log i
+
+  told-crossing : isCrossing rec ≡ true → Telling log (suc i) (nextHeld (b .held) (codesIn rec))
+  unfolding nextHeld codeBefore believedBefore
+  told-crossing e =
+      let c = b .held .carried in
+      let d = b .held .believed in
+      record {
+        long = believed-long c d (codesIn rec) ∙ g .long;
+        carried = λ y l. rw e;
+        believed = λ y l.
+            by-itself c d (codesIn rec) (g .long) (carried-low (b .held) sound) (believed-low (b .held) sound) (gtfe-low rec w e) y l
+            ∙ rw (e, g .carried y l, g .believed y l);
+      }
+
+  told-command : isCrossing rec ≡ false → Telling log (suc i) (b .held)
+  unfolding codeBefore believedBefore
+  told-command e = record { long = g .long; carried = λ y l. rw e (g .carried y l); believed = λ y l. rw e (g .believed y l) }
+
+  told-next : Telling log (suc i) (stepped b rec .held)
+  unfolding stepped boardCrossed boardCommanded
+  told-next =
+      ⊎-elim
+      (λ (e : isCrossing rec ≡ true). rw e (told-crossing e))
+      (λ (e : isCrossing rec ≡ false). rw e (told-command e))
+      (either (isCrossing rec))
+
+module _ {s : Settings} {log buffer : List ℕ} (t : Taken s log buffer) where
+  pub told-at : (i : ℕ) → i ≤ recordsIn log → Telling log i (ran i (freshBoard s) log .held)
+  unfolding ran freshBoard
+  told-at zero l = told-fresh log
+  told-at (suc i) l =
+      let b = ran i (freshBoard s) log in
+      let sound = sound-parts b (fit-at t i (omega arith) .sound) .held in
+      told-next log i b sound (well-here t i l) (told-at i (omega arith))
+
+pub holding : Holding
+holding s log buffer t x low =
+    let g = told-at t (recordsIn log) (omega arith) in
+    rw (ground t .closing) (record { carried = g .carried x low; believed = g .believed x low })

@@ -1,0 +1,3 @@
+pub mod Holds
+pub mod Bounce
+pub mod Sample
