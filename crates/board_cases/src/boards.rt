@@ -7,6 +7,7 @@ use ptc::Counts;
 use ptc::Lost;
 use ptc::Ptc;
 use settings::Settings;
+use steady::Held;
 ghost use Prim.Native.Nat.{_<_};
 
 pub(crate) fn byte(n: u64) -> u8 {
@@ -99,6 +100,32 @@ pub(crate) fn set_mark(mut board: Board, i: usize, value: u64) -> Board
     board
 }
 
+// Byte i of the held codes, of the believed or of the carried ones.
+pub(crate) fn set_held(mut board: Board, is_believed: bool, i: usize, value: u64) -> Board
+    requires { ⌜ i < 21 ⌝ }
+{
+    let mut held = board.held;
+    if is_believed {
+        held.believed[i] = byte(value);
+    } else {
+        held.carried[i] = byte(value);
+    }
+    board.held = held;
+    board
+}
+
+// Every input carries the code, and is believed to.
+pub(crate) fn set_codes(mut board: Board, code: u64) -> Board {
+    let mut codes = [byte(code % 16 * 17); 21];
+    codes[0] = byte(code % 16);
+    let held = Held {
+        carried: codes,
+        believed: codes,
+    };
+    board.held = held;
+    board
+}
+
 fn is_same_counts(a: Counts, b: Counts) -> bool {
     (a.requested == b.requested)
         & (a.accepted == b.accepted)
@@ -149,6 +176,14 @@ fn are_same_marks(a: [u64; 32], b: [u64; 32]) -> bool {
     same
 }
 
+fn is_same_held(a: Held, b: Held) -> bool {
+    let c = a.carried;
+    let d = b.carried;
+    let e = a.believed;
+    let f = b.believed;
+    words::same(&c, &d) & words::same(&e, &f)
+}
+
 pub(crate) fn are_same_settings(a: Settings, b: Settings) -> bool {
     let mut same = true;
     let mut k = 0;
@@ -168,6 +203,7 @@ pub(crate) fn is_same(a: Board, b: Board) -> bool {
         & (a.turn.holder == b.turn.holder)
         & (a.turn.left == b.turn.left)
         & are_same_ptcs(p, q)
+        & is_same_held(a.held, b.held)
         & are_same_marks(m, n)
         & are_same_settings(a.settings, b.settings)
 }

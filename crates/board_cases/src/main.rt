@@ -1,6 +1,7 @@
 // Sets up boards and logs as standard input tells, runs blocks over them, and prints what each call answered and left.
 // A line is a letter and up to four numbers. `#` prints the line. `n` begins a fresh board and an empty log. `s i v` sets a
-// setting, `v f v` a value of the clock or the slot, `p k f v` one of a controller, `m i v` a word of marks. `a kind b1 b2 b3`
+// setting, `v f v` a value of the clock or the slot, `p k f v` one of a controller, `m i v` a word of marks, `h w i v` a byte of
+// the held codes (w is 0: carried, 1: believed), and `c v` holds code v for every input. `a kind b1 b2 b3`
 // adds a record, a crossing having every code 8; `z at v` sets a byte of the log, `l n` its length. `b room` runs the log as
 // a block with a rows buffer of that length, and goes on with the board that it leaves. `f` makes a fresh board of the settings.
 mod boards;
@@ -10,6 +11,8 @@ use boards::are_same_settings;
 use boards::byte;
 use boards::is_same;
 use boards::set_clock;
+use boards::set_codes;
+use boards::set_held;
 use boards::set_mark;
 use boards::set_ptc;
 use boards::set_setting;
@@ -291,6 +294,8 @@ fn obey(board: Board, log: Log, w: Words) -> Board {
         b'v' => set_clock(board, w.a, w.b),
         b'p' => set_ptc(board, at_most(w.a, 7), w.b, w.c),
         b'm' => set_mark(board, at_most(w.a, 31), w.b),
+        b'h' => set_held(board, w.a == 1, at_most(w.b, 20), w.c),
+        b'c' => set_codes(board, w.a),
         b'b' => run_log(board, log, at_most(w.a, 480)),
         b'f' => remade(board),
         _ => board,

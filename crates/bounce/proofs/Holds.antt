@@ -1,5 +1,5 @@
 -- What a board holds is what the records tell, of each input by itself.
--- By induction on the records: the two nibbles of a byte are believed each by itself, and the GTFE codes of a sound board are nibbles.
+-- By induction on the records, by the law of one input (`believed-code`): the GTFE codes of a sound board are nibbles.
 use mathlib.Core.Path.{_≡_, refl, _∙_}
 use mathlib.Core.Logic.{⊎-elim}
 use mathlib.Core.Bool.{true, false}
@@ -8,15 +8,14 @@ use Prim.Native.Nat.{ℕ, zero, suc, _+_, _/_, _%_, _≤_, _<_}
 use native.Mathlib.Omega.{arith}
 use borrow.Author.Tests.{eq-eqb, ne-eqb}
 use lib.Dec.{eqb}
-use lib.ListN.{length, getD, getD-replicate}
+use lib.ListN.{length, getD-replicate}
 use Rattle.laws.proofs.Bools.{if-has}
 use Rattle.laws.proofs.Tests.{either, same-or-not}
 use Rattle.settings.specs.declared.Settings.{Settings}
 use Rattle.status.specs.Codes.{codeAt}
 use Rattle.steady.specs.declared.Held.{Held}
-use Rattle.steady.specs.Steady.{steady, steadyByte, believedOf}
 use Rattle.steady.specs.Held.{nextHeld, freshHeld, soundHeld}
-use Rattle.steady.proofs.Laws.{twice, byte-low, byte-high, believed-long, believed-get, carried-low, believed-low}
+use Rattle.steady.proofs.Laws.{believed-long, believed-code, carried-low, believed-low}
 use Rattle.records.specs.Records.{recAt, isCrossing, codesIn, well}
 use Rattle.records.specs.Refusal.{recordsIn}
 use Rattle.records.proofs.Laws.{gtfe-low}
@@ -29,34 +28,6 @@ use Rattle.board.proofs.Settled.{sound-parts}
 use Rattle.logbook.specs.Whole.{Taken}
 use Rattle.logbook.proofs.Ground.{ground, fit-at, well-here}
 use Rattle.bounce.specs.Input.{codeBefore, believedBefore, Holding}
-
--- a byte with one code in it
-alone : (c b n : ℕ) → c < 16 → b < 16 → n < 16 → steadyByte c b n ≡ steady c b n
-alone c b n p q r =
-    let low : (m : ℕ) → m < 16 → m % 16 ≡ m = λ m h. omega arith in
-    let high : (m : ℕ) → m < 16 → m / 16 ≡ 0 = λ m h. omega arith in
-    let here : steadyByte c b n % 16 ≡ steady c b n = byte-low c b n ∙ rw (low c p, low b q, low n r) in
-    let none : steadyByte c b n / 16 ≡ 0 = byte-high c b n ∙ rw (high c p, high b q, high n r) (twice 0 0) in
-    omega arith
-
--- each input by itself, whatever else the bytes hold
-module _ (c b n : List ℕ) (long : length b ≡ 21) (p : getD c 0 0 < 16) (q : getD b 0 0 < 16) (r : getD n 0 0 < 16) where
-  at-byte : (k : ℕ) → k < 21 → getD (believedOf c b n) k 0 ≡ steadyByte (getD c k 0) (getD b k 0) (getD n k 0)
-  at-byte k h = believed-get c b n k (rw long h)
-
-  by-itself : (y : ℕ) → y < 41 → codeAt (believedOf c b n) y ≡ steady (codeAt c y) (codeAt b y) (codeAt n y)
-  unfolding codeAt
-  by-itself y h =
-      ⊎-elim
-      (λ (e : y ≡ 40). rw (eq-eqb y 40 e, at-byte 0 (omega arith)) (alone (getD c 0 0) (getD b 0 0) (getD n 0 0) p q r))
-      (λ (e : y ≡ 40 → ⊥).
-      let k = 1 + y / 2 in
-      let inside : k < 21 = omega arith in
-      ⊎-elim
-      (λ (t : eqb (y % 2) 0 ≡ true). rw (ne-eqb y 40 e, t, at-byte k inside) (byte-low (getD c k 0) (getD b k 0) (getD n k 0)))
-      (λ (t : eqb (y % 2) 0 ≡ false). rw (ne-eqb y 40 e, t, at-byte k inside) (byte-high (getD c k 0) (getD b k 0) (getD n k 0)))
-      (either (eqb (y % 2) 0)))
-      (same-or-not y 40)
 
 -- held codes that are those told before record i
 pub record Telling (log : List ℕ) (i : ℕ) (h : Held) : Type 0 where
@@ -92,7 +63,7 @@ module _ (log : List ℕ) (i : ℕ) (b : Board) (sound : soundHeld (b .held) ≡
         long = believed-long c d (codesIn rec) ∙ g .long;
         carried = λ y l. rw e;
         believed = λ y l.
-            by-itself c d (codesIn rec) (g .long) (carried-low (b .held) sound) (believed-low (b .held) sound) (gtfe-low rec w e) y l
+            believed-code c d (codesIn rec) (g .long) (carried-low (b .held) sound) (believed-low (b .held) sound) (gtfe-low rec w e) y l
             ∙ rw (e, g .carried y l, g .believed y l);
       }
 

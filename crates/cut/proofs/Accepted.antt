@@ -4,20 +4,25 @@ use mathlib.Core.Path.{_≡_, _∙_}
 use mathlib.Core.Bool.{true}
 use mathlib.Core.List.{List, _++_}
 use Prim.Native.Nat.{ℕ, _*_}
+use native.Mathlib.Omega.{arith}
 use lib.ListN.{length, take, drop}
 use lib.Seq.{take-at, drop-at}
 use Rattle.answer.specs.Told.{DONE}
-use Rattle.records.specs.Refusal.{Ready}
+use Rattle.records.specs.Refusal.{recordsIn, Ready}
 use Rattle.board.specs.declared.Board.{Board}
-use Rattle.board.specs.Run.{rowsOf}
+use Rattle.board.specs.Run.{ran, rowsOf}
 use Rattle.board.specs.Sound.{soundBoard}
 use Rattle.board.specs.Block.{blockOf}
 use Rattle.board.proofs.Answers.{ready-done, block-answer}
-use Rattle.board.proofs.Keeps.{Fit, rows-long}
+use Rattle.board.proofs.Keeps.{Fit, ran-fit, rows-long}
 use Rattle.cut.specs.Blocks.{Whole}
 
 pub fit-of : (b : Board) → Whole b → soundBoard b ≡ true → Fit b
 fit-of b whole sound = record { ptcs = whole .ptcs; marks = whole .marks; sound = sound }
+
+-- the board that records without a fault leave
+pub after-fit : (b : Board) (log : List ℕ) (room : ℕ) → Fit b → Ready (b .clock .crossings) log room → Fit (ran (recordsIn log) b log)
+after-fit b log room fit r = ran-fit (recordsIn log) b log fit (r .life) (r .formed) (recordsIn log) (omega arith)
 
 pub accepts : (b : Board) (log rows : List ℕ) → soundBoard b ≡ true → Ready (b .clock .crossings) log (length rows) → blockOf b log rows .answer ≡ DONE
 accepts b log rows sound r = block-answer b log rows ∙ ready-done b log (length rows) sound r

@@ -12,8 +12,8 @@ use Rattle.board.specs.declared.Board.{Board}
 use Rattle.board.specs.Run.{ran, rowsOf}
 use Rattle.board.specs.Block.{blockOf}
 use Rattle.board.proofs.Answers.{block-ready, block-answer, block-done}
-use Rattle.board.proofs.Keeps.{Fit, ran-fit}
-use Rattle.cut.proofs.Accepted.{fit-of, accepts, rows-taken}
+use Rattle.board.proofs.Keeps.{Fit}
+use Rattle.cut.proofs.Accepted.{fit-of, after-fit, accepts, rows-taken}
 use Rattle.cut.proofs.Parts.{records-add, ran-parts, rows-parts, first-ready, rest-ready}
 use Rattle.cut.specs.Blocks.{Lent, AllFit, uncut, Outcome, inTurn, atOnce, Cut}
 
@@ -36,7 +36,7 @@ in-turn b (x ∷ xs) room fit fits r =
     let end : length (uncut xs) % 24 ≡ 0 = omega (arith, between, r .whole, length-append (x .log) (uncut xs)) in
     let first = first-ready b (x .log) (uncut xs) between end room r (length (x .buffer)) (fits .0 .room) in
     let done = accepts b (x .log) (x .buffer) (fit .sound) first in
-    let after = ran-fit m b (x .log) fit (first .life) (first .formed) m (omega arith) in
+    let after = after-fit b (x .log) (length (x .buffer)) fit first in
     let space : 12 * recordsIn (uncut xs) ≤ room = omega (arith, r .space, records-add b (x .log) (uncut xs) between end) in
     let rest = in-turn (ran m b (x .log)) xs room after (fits .1) (rest-ready b (x .log) (uncut xs) between end room r room space) in
     let taken = rows-taken m b (x .log) (drop (12 * m) (x .buffer)) (fit .ptcs) in

@@ -18,12 +18,12 @@ use Rattle.board.specs.Run.{ran, rowsOf}
 use Rattle.board.specs.Sound.{soundBoard}
 use Rattle.board.specs.Block.{RanOut, answerOf, blockOf}
 use Rattle.board.proofs.Answers.{block-ready, block-answer, block-done}
-use Rattle.board.proofs.Keeps.{Fit, ran-fit}
+use Rattle.board.proofs.Keeps.{Fit}
 use Rattle.board.proofs.Settled.{sound-life}
 use Rattle.replay.specs.Replay.{blocksIn, blockAt, laidOn, inBlocks}
 use Rattle.replay.proofs.Laws.{stays}
 use Rattle.replay.proofs.TestedFirst.{in-turn}
-use Rattle.cut.proofs.Accepted.{fit-of, accepts, rows-taken, rows-past}
+use Rattle.cut.proofs.Accepted.{fit-of, after-fit, accepts, rows-taken, rows-past}
 use Rattle.cut.proofs.Parts.{records-add, ran-parts, rows-parts, first-ready, rest-ready}
 use Rattle.cut.specs.Blocks.{Whole}
 use Rattle.cut.specs.Program.{firstBlocks, nextBlock, Program}
@@ -50,7 +50,7 @@ module _ (b : Board) (rows : List ℕ) (fit : Fit b) where
       let add = records-add b x y between end in
       let room : 12 * recordsIn y ≤ length (drop (12 * m) rows) = rw length-drop (omega (arith, r .space, add)) in
       let before = first-ready b x y between end (length rows) r (length rows) (omega (arith, r .space, add)) in
-      let after = ran-fit m b x fit (before .life) (before .formed) m (omega arith) in
+      let after = after-fit b x (length rows) fit before in
       let next = rest-ready b x y between end (length rows) r (length (drop (12 * m) rows)) room in
       let done = accepts (ran m b x) y (drop (12 * m) rows) (after .sound) next in
       let kept = rows-taken m b x (drop (12 * m) rows) (fit .ptcs) in

@@ -2,7 +2,6 @@
 -- A block is accepted, and its run keeps the board, or refused, and the board comes back; a fresh board is made of settings that pass.
 use mathlib.Core.List.{List}
 use Prim.Native.Nat.{ℕ, zero, suc}
-use native.Mathlib.Omega.{arith}
 use lib.ListN.{length}
 use Rattle.laws.proofs.Bools.{if-has}
 use Rattle.answer.specs.Told.{succeeded}
@@ -11,21 +10,20 @@ use Rattle.settings.specs.Check.{checked}
 use Rattle.settings.specs.Read.{standard, readText}
 use Rattle.settings.proofs.Standard.{standard-checks}
 use Rattle.settings.proofs.Bounds.{done-checks}
-use Rattle.records.specs.Refusal.{recordsIn}
 use Rattle.board.specs.declared.Board.{Board}
 use Rattle.board.specs.Fresh.{freshBoard, freshOf, MadeOut}
 use Rattle.board.specs.Block.{RanOut, answerOf, blockOf}
 use Rattle.board.proofs.Answers.{block-ready}
-use Rattle.board.proofs.Keeps.{Fit, fresh-fit, ran-fit}
+use Rattle.board.proofs.Keeps.{Fit, fresh-fit}
+use Rattle.cut.proofs.Accepted.{after-fit}
 use Rattle.replay.specs.Replay.{openedOf, inBlocks}
 use Rattle.pieces.proofs.Unbuffered.{accepted}
 
 block-fit : (b : Board) (log rows : List ℕ) → Fit b → Fit (blockOf b log rows .board)
 unfolding blockOf
 block-fit b log rows fit =
-    let n = recordsIn log in
     if-has (λ (o : RanOut). Fit (o .board)) (succeeded (answerOf b log (length rows))) _ _
-    (λ d. let r = block-ready b log (length rows) (accepted b log (length rows) d) .1 in ran-fit n b log fit (r .life) (r .formed) n (omega arith))
+    (λ d. after-fit b log (length rows) fit (block-ready b log (length rows) (accepted b log (length rows) d) .1))
     (λ d. fit)
 
 pub blocks-fit : (n : ℕ) (b : Board) (log rows : List ℕ) → Fit b → Fit (inBlocks n b log rows .board)

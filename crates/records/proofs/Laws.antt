@@ -2,10 +2,10 @@
 -- Each opens one definition; what speaks of n records is by induction on n.
 use mathlib.Core.Path.{_≡_, refl, ap, ap₂, sym, _∙_}
 use mathlib.Core.Logic.{_⊎_, ⊎-elim}
-use mathlib.Core.Bool.{Bool, true, false, not, _&&_, _||_, false≢true}
+use mathlib.Core.Bool.{Bool, true, false, not, _||_, false≢true}
 use mathlib.Core.List.{List, [], _∷_}
 use Prim.Native.Nat.{ℕ, zero, suc, _+_, _-_, _*_, _%_, _≤_, _<_}
-use native.Mathlib.Nat.{add-zero, add-suc, zero-add, not-suc-le-zero}
+use native.Mathlib.Nat.{add-zero, add-suc, zero-add}
 use native.Mathlib.Numerals.{add-one}
 use native.Mathlib.Omega.{arith}
 use borrow.Author.Tests.{lt-ltb, le-ltb, leb-true, eqb-true, eqb-false}
@@ -20,7 +20,7 @@ use Rattle.laws.proofs.First.{first-all, first-none}
 use Rattle.laws.proofs.Over.{length-tabulate, getD-tabulate}
 use Rattle.answer.specs.Told.{Told, succeeded, DONE, LENGTH, ROOM, RECORD, LIFE}
 use Rattle.answer.proofs.Told.{not-done}
-use Rattle.records.specs.Records.{recAt, isCrossing, codesIn, sameCodes, wellCrossing, wellCommand, well, firstIll, crossingsIn}
+use Rattle.records.specs.Records.{recAt, isCrossing, codesIn, wellCrossing, wellCommand, well, firstIll, crossingsIn}
 use Rattle.records.specs.Rows.{rowByte, packed, crossingRow, commandRow}
 use Rattle.records.specs.Refusal.{LIFETIME, recordsIn, refusalOf, Ready}
 
@@ -50,33 +50,6 @@ rec-bytes log i n long bytes =
     (λ (h : n < 24). rw (rec-byte log i n h) (bytes _))
     (λ (h : 24 ≤ n). let past : length (recAt log i) ≤ n = rw long h in rw (List·getD-eq-default (recAt log i) 0 past) (omega arith))
     (lt-or-ge n 24)
-
--- a turn of the loop that compares the codes of a record with those before it
-pub same-turn : (log : List ℕ) (i k : ℕ) (same r : Bool) → 0 < i → k < 21 → same ≡ sameCodes k (recAt log i) (recAt log (i - 1))
-    → r ≡ same && eqb (getD log (24 * i + 3 + k) 0) (getD log (24 * i - 24 + 3 + k) 0)
-    → r ≡ sameCodes (k + 1) (recAt log i) (recAt log (i - 1))
-unfolding sameCodes
-same-turn log i k same r some h s e =
-    let here : 24 * i + 3 + k ≡ 24 * i + (3 + k) = omega arith in
-    let there : 24 * i - 24 + 3 + k ≡ 24 * (i - 1) + (3 + k) = omega arith in
-    e ∙ rw (add-one, s, here, there, rec-byte log i (3 + k) (omega arith), rec-byte log (i - 1) (3 + k) (omega arith))
-
--- records that agree in their first n codes
-same-byte : (n : ℕ) (a b : List ℕ) → sameCodes n a b ≡ true → (k : ℕ) → k < n → getD a (3 + k) 0 ≡ getD b (3 + k) 0
-unfolding sameCodes
-same-byte zero a b e k h = absurd (not-suc-le-zero h)
-same-byte (suc n) a b e k h =
-    let w = both (sameCodes n a b) _ e in
-    ⊎-elim
-    (λ (l : k < n). same-byte n a b (w .0) k l)
-    (λ (l : n ≤ k). let z : k ≡ n = omega arith in rw z (eqb-true _ _ (w .1)))
-    (lt-or-ge k n)
-
-pub same-codes : (a b : List ℕ) → length a ≡ 24 → length b ≡ 24 → sameCodes 21 a b ≡ true → codesIn a ≡ codesIn b
-same-codes a b la lb e =
-    let long : length (drop 3 a) ≡ length (drop 3 b) = simp (length-drop, la, lb) in
-    ext-getD 0 (drop 3 a) (drop 3 b) long
-    (λ k h. rw (getD-drop 3 a k 0, getD-drop 3 b k 0) (same-byte 21 a b e k (rw (length-drop, la) at h)))
 
 -- what code lends of a block for record i
 pub lent : (log : List ℕ) (i : ℕ) → take (24 * i + 24 - 24 * i) (drop (24 * i) log) ≡ recAt log i

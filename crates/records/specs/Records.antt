@@ -1,6 +1,6 @@
 -- Document 01, "Records and rows": what a record is, what it says, and when it is well formed.
 use Prim.Native.Nat.{ℕ, zero, suc, _+_, _*_, _/_, _%_, _^_}
-use mathlib.Core.Bool.{Bool, true, _&&_, _||_}
+use mathlib.Core.Bool.{Bool, _&&_, _||_}
 use mathlib.Core.List.{List}
 use lib.Dec.{leb, eqb}
 use lib.ListN.{getD, take, drop}
@@ -25,11 +25,6 @@ askedIn requests k = eqb (requests / 2 ^ k % 2) 1
 -- byte 3 = GTFE code, then partition codes and aTTS codes
 abbrev pub codesIn : List ℕ → List ℕ
 codesIn rec = drop 3 rec
-
--- two records have the same n bytes from byte 3 on; all their codes are the same where n is 21
-unfoldable pub sameCodes : ℕ → List ℕ → List ℕ → Bool
-sameCodes zero a b = true
-sameCodes (suc n) a b = sameCodes n a b && eqb (getD a (3 + n) 0) (getD b (3 + n) 0)
 
 -- byte 0 = 0; byte 1 = orbit marker 0 or 1; byte 3 = GTFE code 0..15
 unfoldable pub wellCrossing : List ℕ → Bool

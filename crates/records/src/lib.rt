@@ -16,7 +16,7 @@ ghost use lib.Dec.{eqb};
 ghost use lib.ListN.{length, drop};
 ghost use Rattle.laws.specs.Base.{one, allB};
 ghost use Rattle.answer.specs.Told.{told};
-ghost use Rattle.records.specs.Records.{recAt, askedIn, sameCodes, wellCrossing, wellCommand, well, firstIll, crossingsIn};
+ghost use Rattle.records.specs.Records.{askedIn, wellCrossing, wellCommand, well, firstIll, crossingsIn};
 ghost use Rattle.records.specs.Refusal.{LIFETIME, refusalOf};
 
 pub const RECORD: usize = 24;
@@ -32,22 +32,6 @@ pub fn asked(requests: u8, k: usize) -> bool
     ensures { λ r. ⌜ r ≡ askedIn requests k ⌝ }
 {
     (requests as u64 >> k as u64) % 2 == 1
-}
-
-// Whether record i has the codes of the one before it. It looks at all of them, so that the compiler compares them at once.
-pub fn repeats(log: &[u8], i: usize) -> bool
-    requires { ⌜ (0 < i) × (24 * i + 24 ≤ length (now log)) ⌝ }
-    ensures { λ r. ⌜ r ≡ sameCodes 21 (recAt (now (log .entry)) i) (recAt (now (log .entry)) (i - 1)) ⌝ }
-{
-    let at = RECORD * i;
-    let before = at - RECORD;
-    let mut same = true;
-    let mut k = 0;
-    while k < 21 {
-        same = plain::both(same, log[at + 3 + k] == log[before + 3 + k]);
-        k += 1;
-    }
-    same
 }
 
 fn is_well_crossing(rec: &[u8]) -> bool

@@ -1,17 +1,17 @@
 -- Laws of steady codes: each input by itself, well-formed codes stay so, and where carried and believed are the new codes nothing changes.
 -- The two nibbles of a byte are digits in base 16.
-use mathlib.Core.Path.{_≡_, refl, ap, sym, _∙_}
+use mathlib.Core.Path.{_≡_, refl, sym, _∙_}
 use mathlib.Core.Logic.{⊎-elim}
-use mathlib.Core.Bool.{Bool, true, false}
+use mathlib.Core.Bool.{true, false}
 use mathlib.Core.List.{List, [], _∷_}
-use Prim.Native.Nat.{ℕ, _+_, _*_, _/_, _%_, _≤_, _<_}
+use Prim.Native.Nat.{ℕ, _+_, _/_, _%_, _≤_, _<_}
 use native.Mathlib.Nat.{zero-add}
 use native.Mathlib.Omega.{arith}
 use borrow.Author.Tests.{eq-eqb, ne-eqb, lt-ltb, ltb-true}
 use lib.Dec.{eqb, ltb}
 use lib.ListN.{length, getD, List·getD-eq-default}
 use lib.Seq.{ext-getD}
-use Rattle.laws.specs.Base.{if, mapI}
+use Rattle.laws.specs.Base.{mapI}
 use Rattle.laws.proofs.Bools.{if-most, both, and-yes}
 use Rattle.laws.proofs.Tests.{either, lt-or-ge, same-or-not}
 use Rattle.laws.proofs.Over.{length-mapI, getD-mapI}
@@ -19,7 +19,6 @@ use Rattle.status.specs.Codes.{codeAt, Coded}
 use Rattle.steady.specs.declared.Held.{Held}
 use Rattle.steady.specs.Steady.{steady, steadyByte, believedOf}
 use Rattle.words.proofs.Laws.{same-self, same-lists}
-use Rattle.steady.specs.declared.News.{News}
 use Rattle.steady.specs.Held.{nextHeld, freshHeld, soundHeld}
 use Rattle.steady.specs.support.News.{newsOf}
 
@@ -103,48 +102,54 @@ unfolding believedOf mapI
 first-low carried [] codes p q r = omega arith
 first-low carried (b ∷ l) codes p q r = rw (small _ _ _ p q r) (omega (arith, steady-low (getD carried 0 0) b (getD codes 0 0) 15 (omega arith) (omega arith)))
 
--- well-formed codes
-module _ (carried believed codes : List ℕ) (c : Coded carried) (b : Coded believed) (n : Coded codes) where
-  long : length (believedOf carried believed codes) ≡ 21
-  long = believed-long carried believed codes ∙ b .long
-
+-- each input by itself, whatever else the bytes hold
+module _ (carried believed codes : List ℕ) (long : length believed ≡ 21) (c : getD carried 0 0 < 16) (b : getD believed 0 0 < 16) (n : getD codes 0 0 < 16) where
   at-byte : (k : ℕ) → k < 21 → getD (believedOf carried believed codes) k 0 ≡ steadyByte (getD carried k 0) (getD believed k 0) (getD codes k 0)
-  at-byte k h = believed-get carried believed codes k (omega (arith, b .long))
+  at-byte k h = believed-get carried believed codes k (rw long h)
 
-  -- each input by itself
   pub believed-code : (i : ℕ) → i < 41 → codeAt (believedOf carried believed codes) i ≡ steady (codeAt carried i) (codeAt believed i) (codeAt codes i)
   unfolding codeAt
   believed-code i h =
       ⊎-elim
-      (λ (e : i ≡ 40). rw (eq-eqb i 40 e, at-byte 0 (omega arith)) (small (getD carried 0 0) (getD believed 0 0) (getD codes 0 0) (c .gtfe) (b .gtfe) (n .gtfe)))
+      (λ (e : i ≡ 40). rw (eq-eqb i 40 e, at-byte 0 (omega arith)) (small (getD carried 0 0) (getD believed 0 0) (getD codes 0 0) c b n))
       (λ (e : i ≡ 40 → ⊥).
-      let p : 1 + i / 2 < 21 = omega arith in
+      let k = 1 + i / 2 in
+      let inside : k < 21 = omega arith in
       ⊎-elim
-      (λ (t : eqb (i % 2) 0 ≡ true). rw (ne-eqb i 40 e, t, at-byte (1 + i / 2) p) (byte-low (getD carried (1 + i / 2) 0) (getD believed (1 + i / 2) 0) (getD codes (1 + i / 2) 0)))
-      (λ (t : eqb (i % 2) 0 ≡ false). rw (ne-eqb i 40 e, t, at-byte (1 + i / 2) p) (byte-high (getD carried (1 + i / 2) 0) (getD believed (1 + i / 2) 0) (getD codes (1 + i / 2) 0)))
+      (λ (t : eqb (i % 2) 0 ≡ true). rw (ne-eqb i 40 e, t, at-byte k inside) (byte-low (getD carried k 0) (getD believed k 0) (getD codes k 0)))
+      (λ (t : eqb (i % 2) 0 ≡ false). rw (ne-eqb i 40 e, t, at-byte k inside) (byte-high (getD carried k 0) (getD believed k 0) (getD codes k 0)))
       (either (eqb (i % 2) 0)))
       (same-or-not i 40)
 
-  pub believed-coded : Coded (believedOf carried believed codes)
-  believed-coded = record {
-    long = long;
-    gtfe =
-        rw (at-byte 0 (omega arith), small (getD carried 0 0) (getD believed 0 0) (getD codes 0 0) (c .gtfe) (b .gtfe) (n .gtfe))
-        (omega (arith, b .gtfe, n .gtfe, steady-low (getD carried 0 0) (getD believed 0 0) (getD codes 0 0) 15 (omega (arith, b .gtfe)) (omega (arith, n .gtfe))));
-    bytes =
-        λ k.
-        ⊎-elim
-        (λ (h : k < 21). rw (at-byte k h) (byte-fits (getD carried k 0) (getD believed k 0) (getD codes k 0) (b .bytes k) (n .bytes k)))
-        (λ (h : 21 ≤ k).
-        let z : length (believedOf carried believed codes) ≤ k = omega (arith, long) in
-        rw (List·getD-eq-default (believedOf carried believed codes) 0 z) (omega arith))
-        (lt-or-ge k 21);
-  }
+  pub believed-first : getD (believedOf carried believed codes) 0 0 < 16
+  believed-first =
+      rw (at-byte 0 (omega arith), small (getD carried 0 0) (getD believed 0 0) (getD codes 0 0) c b n)
+      (omega (arith, steady-low (getD carried 0 0) (getD believed 0 0) (getD codes 0 0) 15 (omega arith) (omega arith)))
+
+-- well-formed codes stay so
+pub believed-coded : (carried believed codes : List ℕ) → Coded carried → Coded believed → Coded codes → Coded (believedOf carried believed codes)
+believed-coded carried believed codes c b n =
+    let long : length (believedOf carried believed codes) ≡ 21 = believed-long carried believed codes ∙ b .long in
+    record {
+      long = long;
+      gtfe = believed-first carried believed codes (b .long) (c .gtfe) (b .gtfe) (n .gtfe);
+      bytes =
+          λ k.
+          ⊎-elim
+          (λ (h : k < 21).
+          rw (believed-get carried believed codes k (rw (b .long) h)) (byte-fits (getD carried k 0) (getD believed k 0) (getD codes k 0) (b .bytes k) (n .bytes k)))
+          (λ (h : 21 ≤ k).
+          let past : length (believedOf carried believed codes) ≤ k = rw long h in
+          rw (List·getD-eq-default (believedOf carried believed codes) 0 past) (omega arith))
+          (lt-or-ge k 21);
+    }
 
 -- by the codes of the last two crossings and the one believed before, and by nothing else
 pub depends : (c b n c' b' n' : List ℕ) → Coded c → Coded b → Coded n → Coded c' → Coded b' → Coded n' → (i : ℕ) → i < 41
     → codeAt c i ≡ codeAt c' i → codeAt b i ≡ codeAt b' i → codeAt n i ≡ codeAt n' i → codeAt (believedOf c b n) i ≡ codeAt (believedOf c' b' n') i
-depends c b n c' b' n' oc ob on oc' ob' on' i h p q r = believed-code c b n oc ob on i h ∙ rw (p, q, r) (sym (believed-code c' b' n' oc' ob' on' i h))
+depends c b n c' b' n' oc ob on oc' ob' on' i h p q r =
+    believed-code c b n (ob .long) (oc .gtfe) (ob .gtfe) (on .gtfe) i h
+    ∙ rw (p, q, r) (sym (believed-code c' b' n' (ob' .long) (oc' .gtfe) (ob' .gtfe) (on' .gtfe) i h))
 
 -- the held codes of a sound board
 pub fresh-held-sound : soundHeld freshHeld ≡ true

@@ -15,7 +15,6 @@ ghost use lib.Dec.{eqb};
 ghost use lib.ListN.{length, getD};
 ghost use Rattle.status.specs.Codes.{Coded};
 ghost use Rattle.lanes.specs.support.Lanes.{laneClasses};
-ghost use Rattle.words.specs.Same.{sameBytes};
 ghost use Rattle.steady.specs.Steady.{believedOf};
 ghost use Rattle.throttle.specs.Rules.{Sensible};
 ghost use Rattle.clock.specs.support.Room.{SlotRoom};

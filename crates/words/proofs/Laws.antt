@@ -4,8 +4,8 @@ use mathlib.Core.Path.{_≡_, refl, sym, _∙_}
 use mathlib.Core.Logic.{⊎-elim}
 use mathlib.Core.Bool.{Bool, true, false, _&&_}
 use mathlib.Core.List.{List}
-use Prim.Native.Nat.{ℕ, zero, suc, _+_, _*_, _-_, _≤_, _<_}
-use native.Mathlib.Nat.{add-zero, add-suc, suc-add, zero-add, not-suc-le-zero}
+use Prim.Native.Nat.{ℕ, zero, suc, _+_, _-_, _≤_, _<_}
+use native.Mathlib.Nat.{add-zero, add-suc, suc-add, not-suc-le-zero}
 use native.Mathlib.Omega.{arith}
 use borrow.Author.Tests.{eq-eqb, eqb-true}
 use lib.Dec.{eqb}
@@ -14,7 +14,7 @@ use lib.Seq.{ext-getD}
 use Rattle.laws.proofs.Bools.{both, and-yes}
 use Rattle.laws.proofs.Tests.{lt-or-ge}
 use Rattle.words.specs.Same.{sameBytes}
-use Rattle.words.specs.support.Words.{halfAt, wordAt, numberOf}
+use Rattle.words.specs.support.Words.{wordAt, numberOf}
 
 abbrev Bytes : List ℕ → Type 0
 Bytes s = (n : ℕ) → getD s n 0 < 256

@@ -1,8 +1,7 @@
 -- A turn of the loop believes a byte before its carried code is overwritten; places behind are done, those ahead are as they were.
 -- `turn` and `carry` (Turn.antt) move both lists on by one place, `done` closes them.
 use native.Mathlib.Omega.{arith}
-use mathlib.Core.Path.{_≡_, refl, _∙_}
-use mathlib.Core.List.{append-nil}
+use mathlib.Core.Path.{_≡_, refl}
 use Prim.Native.Nat.{_-_, _≤_}
 use lib.ListN.{length}
 use Rattle.laws.proofs.Over.{over}

@@ -3,7 +3,6 @@
 use Rattle.laws.proofs.Tests.{tests}
 use native.Mathlib.Omega.{arith}
 use Rattle.steady.specs.Steady.{steady}
-use borrow.Author.Needs.{needs}
 use Rattle.steady.proofs.code.Statement.{statement}
 use Rattle.steady.proofs.code.Tie as tie
 

@@ -9,7 +9,6 @@ use lib.ListN.{length}
 use Rattle.laws.proofs.Bools.{both}
 use Rattle.words.specs.Same.{sameBytes}
 use Rattle.words.proofs.Laws.{same-lists}
-use Rattle.steady.specs.declared.News.{News}
 use Rattle.steady.specs.Steady.{believedOf}
 use Rattle.steady.specs.support.News.{newsOf}
 use Rattle.steady.proofs.Laws.{firm, no-news}
