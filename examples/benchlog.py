@@ -9,6 +9,7 @@ A readable log has one word and its details to a line; `#` begins a comment.
     codes all=ready part3=error atts1=warning   from here on; gtfe, part0..part31, atts0..atts7, or a number 0..15
     cross 100                                   100 crossings with these codes
     cross 20 ask=0,1                            20 crossings, each with a request to controllers 0 and 1
+    bounce part3=disconnected ask=0             one crossing in which part3 carries another code
     marker ask=0                                one crossing with the orbit marker
     START 0                                     a command to a controller: START STOP HARD RESYNC CALIBRATE PANIC
 """
@@ -21,8 +22,8 @@ SENDS = {1: "BC0", 2: "TE", 5: "RESYNC", 6: "HARD", 7: "EC0", 8: "OC0", 9: "STAR
 
 
 class Codes:
-    def __init__(self):
-        self.of = {name: 8 for name in self.names()}
+    def __init__(self, of=None):
+        self.of = of or {name: 8 for name in self.names()}
 
     @staticmethod
     def names():
@@ -41,6 +42,32 @@ class Codes:
         inputs = [self.of[name] for name in self.names()[1:]]
         pairs = [inputs[n] + 16 * inputs[n + 1] for n in range(0, 40, 2)]
         return bytes([0, marker, requests, self.of["gtfe"]] + pairs)
+
+
+class Steady:
+    """What each input is believed to carry: a code counts when the input carried it in two consecutive crossings."""
+
+    def __init__(self):
+        self.carried = self.believed = [0] * 41
+
+    def news(self, record):
+        """The next crossing, and in words what it changed."""
+        codes = [record[3]] + [nibble for pair in record[4:] for nibble in (pair % 16, pair // 16)]
+        inputs = list(zip(Codes.names(), self.carried, self.believed, codes))
+        bounced = [name for name, before, old, now in inputs if before not in (old, now)]
+        counts = {}
+        for name, before, old, now in inputs:
+            if before == now != old:
+                counts.setdefault(now, []).append(name)
+        self.believed = [now if before == now else old for _, before, old, now in inputs]
+        self.carried = codes
+        named = {code: word for word, code in CODES.items()}
+        said = [f"{some(names)} counts as {named.get(code, code)}" for code, names in counts.items()]
+        return said + ([f"{some(bounced)} bounced"] if bounced else [])
+
+
+def some(names):
+    return ", ".join(names) if len(names) < 5 else "every input" if len(names) == 41 else f"{names[0]} with {len(names) - 1} others"
 
 
 def requests_of(words):
@@ -66,6 +93,12 @@ def records_of(lines):
                     codes.set(word)
             elif words[0] == "cross":
                 yield from [codes.record(0, requests_of(words[2:]))] * int(words[1])
+            elif words[0] == "bounce":
+                other = Codes(dict(codes.of))
+                for word in words[1:]:
+                    if not word.startswith("ask="):
+                        other.set(word)
+                yield other.record(0, requests_of([word for word in words if word.startswith("ask=")]))
             elif words[0] == "marker":
                 yield codes.record(1, requests_of(words[1:]))
             else:
@@ -89,7 +122,7 @@ def row_words(row):
 def show(records, rows):
     if rows[:1] == b"r":
         sys.exit(rows.decode().strip())
-    crossing, before = 0, None
+    crossing, before, steady = 0, None, Steady()
     for n, record in enumerate(records):
         row = rows[12 * n : 12 * n + 12]
         if record[0] == 1:
@@ -97,6 +130,7 @@ def show(records, rows):
             print(f"before {crossing}: {COMMANDS[record[2] - 1]} to {record[1]} {taken}")
             continue
         said, shown = row_words(row)
+        said += steady.news(record)
         # Codes BC0 and GAP come in every orbit and from all eight: only what is rarer is worth a line.
         said = [s for s in said if "sends BC0" != s[2:] and "sends GAP" != s[2:]]
         for k in range(8):

@@ -29,11 +29,20 @@ known d a b p q = p ∙ sym q
 bounded : {A : Type 0} (d : A) (P : A → Type 0) → One (λ (r : A). (r ≡ d) × P r)
 bounded d P a b p q = known d a b (p .0) (q .0)
 
+-- facts about what was lent say nothing more of the result
+given : {A : Type 0} (d : A) (P Q : Type 0) → One (λ (r : A). (r ≡ d) × P × Q)
+given d P Q a b p q = known d a b (p .0) (q .0)
+
 laid : {A B : Type 0} (d : A) (e : B) → One (λ (o : A × B). (o .0 ≡ d) × (o .1 ≡ e))
 laid {A} {B} d e a b p q = ap₂ (λ (x : A) (y : B). (x, y)) (known d (a .0) (b .0) (p .0) (q .0)) (known e (a .1) (b .1) (p .1) (q .1))
 
 filled : {B : Type 0} (e : B) → One (λ (o : Unit {0} × B). o .1 ≡ e)
 filled {B} e a b p q = ap (λ (y : B). (tt, y)) (known e (a .1) (b .1) p q)
+
+held : {A B C : Type 0} (d : A) (e : B) (f : C) → One (λ (o : A × (B × C)). (o .0 ≡ d) × (o .1 .1 ≡ f) × (o .1 .0 ≡ e))
+held {A} {B} {C} d e f a b p q =
+    ap₂ (λ (x : A) (y : B × C). (x, y)) (known d (a .0) (b .0) (p .0) (q .0))
+    (ap₂ (λ (y : B) (z : C). (y, z)) (known e (a .1 .0) (b .1 .0) (p .2) (q .2)) (known f (a .1 .1) (b .1 .1) (p .1) (q .1)))
 
 -- ---- an answer, alone and beside what else is given back
 
@@ -103,4 +112,8 @@ one-outcome =
       lines-length = λ κs first values. bounded _ _;
       put-row = λ κs buffer row. filled _;
       pass = λ κs ring c x. filled _;
+      is-firm = λ κs carried believed. given _ _ _;
+      follow = λ κs carried believed firm codes. held _ _ _;
+      first-sight = λ κs turn table carried believed. given _ _ _;
+      next-sight = λ κs sight at table slots clock calm carried believed log i. held _ _ _;
     }

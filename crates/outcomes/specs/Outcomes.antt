@@ -2,12 +2,17 @@
 -- `Post` is what the checker itself reads in the `ensures` of src/: an `ensures` that says less breaks the claim.
 use Prim.Native.Nat.{ℕ}
 use mathlib.Core.Path.{_≡_}
+use mathlib.Core.Bool.{Bool}
 use mathlib.Core.List.{List}
 use denote.Ref.{RefT, at-last}
 use contract.Lifetimes.{Lfts}
 use Rattle.answer.specs.declared.Answer.{Answer}
 use Rattle.text.specs.declared.Range.{Range}
 use Rattle.settings.specs.declared.Settings.{Settings}
+use Rattle.settings.specs.declared.names.Schedule.{Schedule}
+use Rattle.clock.specs.declared.Clock.{Clock}
+use Rattle.clock.specs.declared.Turn.{Turn}
+use Rattle.still.specs.declared.Sight.{Sight}
 use Rattle.board.specs.declared.Board.{Board}
 use Rattle.answer.proofs.Answer.number.Reads as number-contract
 use Rattle.answer.proofs.Answer.is_done.Reads as is-done-contract
@@ -24,10 +29,14 @@ use Rattle.settings.proofs.Settings.write.Reads as write-contract
 use Rattle.settings.proofs.Settings.check.Reads as check-contract
 use Rattle.settings.proofs.Settings.standard.Reads as standard-contract
 use Rattle.settings.proofs.Settings.text_length.Reads as settings-length-contract
+use Rattle.steady.proofs.is_firm.Reads as is-firm-contract
+use Rattle.steady.proofs.follow.Reads as follow-contract
 use Rattle.throttle.proofs.pass.Reads as pass-contract
 use Rattle.records.proofs.refusal.Reads as refusal-contract
 use Rattle.records.proofs.test_blocks.Reads as test-blocks-contract
 use Rattle.records.proofs.put_row.Reads as put-row-contract
+use Rattle.still.proofs.Sight.first.Reads as first-contract
+use Rattle.still.proofs.Sight.next.Reads as next-contract
 use Rattle.board.proofs.Board.fresh.Reads as fresh-contract
 use Rattle.board.proofs.Board.block.Reads as block-contract
 use Rattle.board.proofs.Board.blocks.Reads as blocks-contract
@@ -52,6 +61,11 @@ OneValue {Out = Out} post came = One (λ (r : Out). post came r came)
 -- one buffer is lent to be written: an outcome is the value, and the bytes that the buffer has at exit
 abbrev pub OneFilling : {In Out : Type 0} → (In → Out → In → Type 0) → (Lent → In) → Lent → Type 0
 OneFilling {Out = Out} post with out = One (λ (o : Out × List ℕ). post (with out) (o .0) (with (at-last out (o .1))))
+
+-- two are, the carried codes and the believed ones
+abbrev pub OneHolding : {In Out : Type 0} → (In → Out → In → Type 0) → (Lent → Lent → In) → Lent → Lent → Type 0
+OneHolding {Out = Out} post with carried believed =
+    One (λ (o : Out × (List ℕ × List ℕ)). post (with carried believed) (o .0) (with (at-last carried (o .1 .0)) (at-last believed (o .1 .1))))
 
 -- a `requires` is no premise: without it too, one outcome is permitted
 pub record OneOutcome : Type 0 where
@@ -87,3 +101,10 @@ pub record OneOutcome : Type 0 where
   pub lines-length : (κs : Lfts 1) (first : ℕ) (values : Lent) → OneValue (lines-length-contract.Post κs) (first, (values, tt))
   pub put-row : (κs : Lfts 1) (buffer : Lent) (row : List ℕ) → OneFilling (put-row-contract.Post κs) (λ out. (out, (row, tt))) buffer
   pub pass : (κs : Lfts 1) (ring : Lent) (c x : ℕ) → OneFilling (pass-contract.Post κs) (λ marks. (marks, (c, (x, tt)))) ring
+  pub is-firm : (κs : Lfts 2) (carried believed : Lent) → OneValue (is-firm-contract.Post κs) (carried, (believed, tt))
+  pub follow : (κs : Lfts 3) (carried believed : Lent) (firm : Bool) (codes : Lent)
+      → OneHolding (follow-contract.Post κs) (λ c b. (c, (b, (firm, (codes, tt))))) carried believed
+  pub first-sight : (κs : Lfts 3) (turn : Turn) (table carried believed : Lent)
+      → OneValue (first-contract.Post κs) (turn, (table, (carried, (believed, tt))))
+  pub next-sight : (κs : Lfts 5) (sight : Sight) (at : Schedule) (table slots : Lent) (clock : Clock) (calm : Bool) (carried believed log : Lent) (i : ℕ)
+      → OneHolding (next-contract.Post κs) (λ c b. (sight, (at, (table, (slots, (clock, (calm, (c, (b, (log, (i, tt))))))))))) carried believed
