@@ -1,4 +1,4 @@
--- Document 01, step 2 of "One crossing": the merge of one controller's members. Codes count in the crossing they arrive.
+-- Document 01, step 2 of "One crossing": the merge of one controller's members, by the codes that they are believed to carry (document 02, P1).
 use Prim.Native.Nat.{ℕ, _-_}
 use mathlib.Core.Bool.{Bool, true}
 use mathlib.Core.List.{List}
