@@ -1,4 +1,4 @@
-// The board: settings, clock, slot, eight controllers and marks, through one crossing, one command and one block of records.
+// The board: settings, clock, slot, eight controllers, held codes and marks, through one crossing, one command and one block of records.
 mod blocks;
 mod sound;
 
