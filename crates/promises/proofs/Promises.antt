@@ -12,6 +12,7 @@ use Rattle.report.proofs.Fits.{report-fits}
 use Rattle.cut.proofs.Program.{program}
 use Rattle.pieces.proofs.Pieces.{pieces}
 use Rattle.pieces.proofs.Printing.{printing}
+use Rattle.steady.proofs.Laws.{all-held}
 use Rattle.bounce.proofs.Holds.{holding}
 use Rattle.bounce.proofs.Bounce.{bounce, never-twice}
 use Rattle.slots.proofs.Slots.{slots}
@@ -25,7 +26,7 @@ pub promises : Promises
 promises =
     record {
       refusals = refusals;
-      tied = record { names = named-by-key; merge = one-pass; marks = marking; orbits = orbits-cleared; blocks = tested-first };
+      tied = record { names = named-by-key; merge = one-pass; marks = marking; orbits = orbits-cleared; blocks = tested-first; held = all-held };
       one-outcome = one-outcome;
       round-trips = record { accepted-writes-back = accepted-writes-back; written-reads-back = written-reads-back };
       figures = figures;

@@ -18,6 +18,7 @@ use Rattle.report.specs.Fits.{ReportFits}
 use Rattle.cut.specs.Program.{Program}
 use Rattle.pieces.specs.Pieces.{Pieces}
 use Rattle.pieces.specs.Printing.{Printing}
+use Rattle.steady.specs.Held.{AllHeld}
 use Rattle.bounce.specs.Input.{Holding}
 use Rattle.bounce.specs.Bounce.{Bounce, NeverTwice}
 use Rattle.slots.specs.Slots.{Slots}
@@ -34,13 +35,14 @@ pub record RoundTrips : Type 0 where
       → readText (take (length (textOf s)) (written s buffer .buffer)) ≡ record { answer = DONE; settings = s }
 
 -- what the code goes by, and what document 01 says: each name its key, one pass the eight merges, the ring's words the marks, a byte
--- of the row the move that sets the orbit count to 0, and blocks that are tested first the blocks in turn
+-- of the row the move that sets the orbit count to 0, blocks that are tested first the blocks in turn, and low GTFE codes all held codes low
 pub record Tied : Type 0 where
   pub names : NamedByKey
   pub merge : OnePass
   pub marks : Marking
   pub orbits : OrbitsCleared
   pub blocks : TestedFirst
+  pub held : AllHeld
 
 pub record Promises : Type 0 where
   -- demand 1

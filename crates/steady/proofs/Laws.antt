@@ -16,10 +16,11 @@ use Rattle.laws.proofs.Bools.{if-most, both, and-yes}
 use Rattle.laws.proofs.Tests.{either, lt-or-ge, same-or-not}
 use Rattle.laws.proofs.Over.{length-mapI, getD-mapI}
 use Rattle.status.specs.Codes.{codeAt, Coded}
+use Rattle.status.proofs.Codes.{code-low}
 use Rattle.steady.specs.declared.Held.{Held}
 use Rattle.steady.specs.Steady.{steady, steadyByte, believedOf}
 use Rattle.words.proofs.Laws.{same-self, same-lists}
-use Rattle.steady.specs.Held.{nextHeld, freshHeld, soundHeld}
+use Rattle.steady.specs.Held.{nextHeld, freshHeld, soundHeld, AllHeld}
 use Rattle.steady.specs.support.News.{newsOf}
 
 -- a code that came twice is believed
@@ -168,3 +169,15 @@ module _ (h : Held) (sound : soundHeld h ≡ true) where
   pub next-sound : (codes : List ℕ) → getD codes 0 0 < 16 → soundHeld (nextHeld h codes) ≡ true
   unfolding soundHeld nextHeld codeAt
   next-sound codes low = and-yes _ _ (lt-ltb _ _ low) (lt-ltb _ _ (first-low (h .carried) (h .believed) codes carried-low believed-low low))
+
+-- of bytes, the GTFE codes being low makes all of them low
+pub all-held : AllHeld
+unfolding soundHeld codeAt
+all-held h c b =
+    record {
+      low = λ sound i l. (
+        code-low (h .carried) (record { long = c .long; gtfe = carried-low h sound; bytes = c .bytes }) i,
+        code-low (h .believed) (record { long = b .long; gtfe = believed-low h sound; bytes = b .bytes }) i,
+      );
+      sound = λ low. let w = low 40 (omega arith) in and-yes _ _ (lt-ltb _ _ (w .0)) (lt-ltb _ _ (w .1));
+    }
