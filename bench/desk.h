@@ -1,6 +1,7 @@
 /* What the C desks share: settings, controllers, commands, the report, and a log's way through memory in pieces. It trusts its
  * input: no ranges, no relations, no soundness, no refusals. States are numbered as in crates/states. A desk that includes this
- * adds its way through the crossings: how codes are merged, how triggers are counted, and which crossings are cut short. */
+ * adds its way through the crossings: how codes are held until they are steady and merged, how triggers are counted, and which
+ * crossings are cut short. */
 #include <fcntl.h>
 #include <stdint.h>
 #include <stdio.h>
@@ -8,7 +9,7 @@
 #include <string.h>
 #include <unistd.h>
 
-enum { PIECE = 61440, RECORD = 24, ROW = 12 };
+enum { PIECE = 61440, RECORD = 24, ROW = 12, CODES = 21 };
 enum { NONE, READY, WARNING, BUSY, OUT_OF_SYNC, ERROR, BAD, DISCONNECTED };
 enum { NO_CYCLE, ARMED, OPEN };
 enum { LOST_STATE, LOST_SLOT, LOST_GAP, LOST_CAL, LOST_THROTTLE, SENT, FATES };

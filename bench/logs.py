@@ -2,15 +2,20 @@
 
     holder asks        the throttle at every crossing, and nothing else: one group, codes that stay
     all ask            the same, with seven requests more to count as lost at every crossing
-    codes change       a merge at every crossing
+    codes change       codes that bounce: other ones at nearly every crossing, and a merge at three in ten
     quiet              nothing but the way through the log
     a working day      a bit of everything, as a bench has it: two groups, markers, codes that now and then change, calibrations
     eight ask          as `all ask`, but each of eight groups by chance, and with hand-overs
     loose rules        as `all ask`, but the rules let one crossing in three have a trigger
-    codes flip         a merge at every crossing, after which several groups move and several ask
-    anything goes      any code, 2 % commands, 1 % markers: no shortcut lasts for more than a few crossings
+    codes flip         a merge at nine crossings in ten, after which mostly one or two of eight groups move and several ask
+    anything goes      any code, a merge at two crossings in three, 2 % commands, 1 % markers: no shortcut lasts for long
     orbit of 64        a number that some controller acts at every six crossings: shortcuts up to the next one are short
     all wait           eight controllers that wait for the whole log, up to 2,700,000 crossings
+    codes in pairs     a merge at every second crossing: the codes of `codes change`, each carried twice, so that all are believed
+    a code bounces     as `holder asks`, with one input that carries a code in no two crossings in a row: it stays believed ready
+
+A code counts when two crossings in a row carry it (P1), so `codes change`, `codes flip` and `anything goes`, which are older and
+had a merge at every crossing, have fewer. They stay as they were: what P1 does to the speed shows in them.
 
 A log is START for each group, three quiet orbits, in which the controllers become ready, and then ten orbits of records, which
 are repeated, since chance is slow to make. So many are not learned by the processor that README.md names: with fifty orbits the
@@ -49,6 +54,16 @@ def asked_by_chance(chance, _):
 def changing(chance, _):
     """Nine bytes of codes in ten are ready, the others have a warning."""
     return crossing(1, bytes(chance.choices((0x88, 0x81), (9, 1), k=20)))
+
+
+def paired(_, n):
+    """As `changing`, by twos: chance that begins alike gives the same codes again."""
+    return changing(random.Random(n // 2), n)
+
+
+def bouncing(_, n):
+    """A partition with a bad connector: ready, busy, disconnected, busy."""
+    return crossing(1, bytes([0x80 + (8, 4, 0, 4)[n % 4]]) + READY[1:])
 
 
 def flipping(chance, _):
@@ -95,6 +110,8 @@ LOGS = [
     Log("anything goes", EIGHT | LOOSE, 8, anything),
     Log("orbit of 64", EIGHT | SHORT, 8, asked_by_chance),
     Log("all wait", EIGHT | LONG_WAITS, 8, asked_by_chance, tuple(command(k, HARD) for k in range(8))),
+    Log("codes in pairs", {}, 1, paired),
+    Log("a code bounces", {}, 1, bouncing),
 ]
 
 

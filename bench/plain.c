@@ -1,8 +1,21 @@
 /* The desk in plain C, to measure the proved one against: written as one would write it for speed, without proofs and without
- * shortcuts but one: codes that have not changed are not merged again. */
+ * shortcuts but one: codes that are all believed already are neither gone through nor merged again. */
 #include "desk.h"
 
-static uint8_t classes[8];
+static uint8_t carried[CODES], believed[CODES], classes[8]; /* the held codes lie as in a record; a fresh board's are 0 */
+
+static uint8_t steady(uint8_t before, uint8_t trusted, uint8_t now) { return before == now ? now : trusted; }
+
+/* A code counts in the second of two crossings in a row that carry it on the same input: whether others are believed now. */
+static int believe(const uint8_t *codes) {
+    int news = 0;
+    for (int j = 0; j < CODES; j++) {
+        uint8_t c = carried[j], b = believed[j], now = codes[j];
+        believed[j] = steady(c % 16, b % 16, now % 16) + 16 * steady(c / 16, b / 16, now / 16);
+        news |= believed[j] != b;
+    }
+    return news;
+}
 
 static void vote(uint8_t k, uint8_t v) {
     if (k < 8 && classes[k] < v) classes[k] = v;
@@ -15,6 +28,12 @@ static void merge(const uint8_t *codes) {
         vote(owner[2 * j], r[codes[1 + j] % 16]);
         vote(owner[2 * j + 1], r[codes[1 + j] / 16]);
     }
+}
+
+/* Codes that are believed already stay so, whatever was carried before. */
+static void follow(const uint8_t *codes) {
+    if (memcmp(believed, codes, CODES) && believe(codes)) merge(believed);
+    memcpy(carried, codes, CODES);
 }
 
 /* How many of the last k crossings carried a trigger. */
@@ -45,31 +64,26 @@ static void mark(uint64_t c, int x) {
     *w = x ? *w | bit : *w & ~bit;
 }
 
-static void crossing(const uint8_t *rec, uint8_t *row, int same_codes) {
+static void crossing(const uint8_t *rec, uint8_t *row) {
     uint32_t number = arrive(rec[1]);
-    if (!same_codes) merge(rec + 3);
+    follow(rec + 3);
     mark(crossings, cross(number, rec[2], classes, row));
     mark(crossings + 1, 0);
     advance(number, 1);
 }
 
 static void run(const uint8_t *log, int records, uint8_t *rows) {
-    static uint8_t before[21];
-    static int fresh = 1;
     for (int i = 0; i < records; i++) {
         const uint8_t *rec = log + RECORD * i;
         uint8_t *row = rows + ROW * i;
         if (rec[0]) command(rec, row);
-        else {
-            crossing(rec, row, !fresh && !memcmp(before, rec + 3, 21));
-            memcpy(before, rec + 3, 21);
-            fresh = 0;
-        }
+        else crossing(rec, row);
     }
 }
 
 int main(void) {
     if (!open_board()) return 1;
+    merge(believed);
     replay(run);
     return 0;
 }

@@ -1,13 +1,14 @@
 /* The desk in C with the shortcuts that a fast desk takes, so that the proved one is measured against its own way of working
  * and not only against a plain one. A crossing is one of three kinds, from common to rare:
- *   still   the codes of the crossing before, no marker, no date, nobody about to move: a stretch of them goes in one loop;
+ *   still   the believed codes stay, even if carried ones bounce; no marker, no date, nobody about to move: a stretch of them
+ *           goes in one loop;
  *   plain   no marker, no date: only controllers whose members changed, that ask, or that were about to move are looked at;
  *   dated   everything else: all eight in full, as in plain.c.
  * A date is a number at which some controller may act: 0, and every `at_` of the settings. */
 #include "desk.h"
 
 enum { RULES = 4, LONGEST = 255 };
-static const uint64_t LANES = 0x0101010101010101ull;
+static const uint64_t LANES = 0x0101010101010101ull, EACH_CODE = 0x1111111111111111ull;
 
 /* Made once, from the settings. */
 static uint64_t lane[40][16], lanes_of_gtfe[16]; /* the bits that a code sets, see merge() */
@@ -16,8 +17,9 @@ static uint64_t dates[64];                       /* a bit for each number */
 static uint8_t drifts[20][8];                    /* by state and class */
 static uint32_t periods[RULES];
 
-/* What goes on from crossing to crossing. The codes' first word begins as no record's does. */
-static uint64_t codes[3] = {~0ull}, lanes;
+/* What goes on from crossing to crossing. */
+static uint64_t carried[3], believed[3]; /* the words of a record, but for the three bytes before its codes */
+static uint64_t lanes;                   /* of the believed codes, see merge() */
 static uint64_t awake;           /* a bit in the lane of each controller that its class would move */
 static int leaving = 1;          /* whether one may be in a state that it leaves at once, whatever the number */
 static uint32_t fills[RULES];    /* the triggers in each rule's period, which ends with the crossing before */
@@ -53,20 +55,50 @@ static uint64_t word(const uint8_t *at) {
     return w;
 }
 
-/* Whether a record has the codes merged last: three compares of words. */
-static int repeats(const uint8_t *rec) {
-    return !((word(rec) ^ codes[0]) >> 24) && word(rec + 8) == codes[1] && word(rec + 16) == codes[2];
+/* The codes of a record as words: the three bytes before them are none. */
+static uint64_t codes_in(const uint8_t *rec, int j) { return j ? word(rec + 8 * j) : word(rec) >> 24 << 24; }
+
+/* All bits of each of the sixteen codes that two words have in common. */
+static uint64_t in_common(uint64_t a, uint64_t b) {
+    uint64_t other = a ^ b;
+    other |= other >> 1;
+    other |= other >> 2;
+    return ~((other & EACH_CODE) * 15);
+}
+
+/* What a crossing changes in a word of the believed codes: a code counts where the crossing before carried it too. */
+static uint64_t news(int j, uint64_t now) { return (believed[j] ^ now) & in_common(carried[j], now); }
+
+/* Whether the believed codes stay in a crossing: then it is held, and else left to learn(). That all it carries is believed, as
+ * mostly, takes three compares; where codes bounce, sixteen go in a step. */
+static int stays(const uint8_t *rec) {
+    uint64_t a = codes_in(rec, 0), b = codes_in(rec, 1), c = codes_in(rec, 2);
+    int doubted = a != believed[0] || b != believed[1] || c != believed[2];
+    if (doubted && (news(0, a) | news(1, b) | news(2, c))) return 0;
+    carried[0] = a;
+    carried[1] = b;
+    carried[2] = c;
+    return 1;
 }
 
 /* Lane k, byte k of a word, has bit r where a member of controller k has class r: no member waits for another. The lanes that
  * change are handed back. */
-static uint64_t merge(const uint8_t *rec) {
-    const uint8_t *inputs = rec + 4;
-    uint64_t before = lanes, now = lanes_of_gtfe[rec[3]];
+static uint64_t merge(void) {
+    const uint8_t *codes = (const uint8_t *)believed + RECORD - CODES, *inputs = codes + 1;
+    uint64_t before = lanes, now = lanes_of_gtfe[codes[0]];
     for (int j = 0; j < 20; j++) now |= lane[2 * j][inputs[j] % 16] | lane[2 * j + 1][inputs[j] / 16];
-    for (int j = 0; j < 3; j++) codes[j] = word(rec + 8 * j);
     lanes = now;
     return now ^ before;
+}
+
+/* A crossing after which other codes are believed: the lanes that change. */
+static uint64_t learn(const uint8_t *rec) {
+    for (int j = 0; j < 3; j++) {
+        uint64_t now = codes_in(rec, j);
+        believed[j] ^= news(j, now);
+        carried[j] = now;
+    }
+    return merge();
 }
 
 /* The greatest class in a lane; bit 0 stands for none. */
@@ -85,11 +117,11 @@ static void drop_oldest(uint64_t n) {
     }
 }
 
-static void mark(uint64_t n, int carried) {
+static void mark(uint64_t n, int passes) {
     uint64_t next = n + 1;
-    marks[n / 64 % 32] |= (uint64_t)carried << n % 64;
+    marks[n / 64 % 32] |= (uint64_t)passes << n % 64;
     marks[next / 64 % 32] &= ~(1ull << next % 64);
-    for (int r = 0; r < RULES; r++) fills[r] = held[r] + carried;
+    for (int r = 0; r < RULES; r++) fills[r] = held[r] + passes;
 }
 
 static int is_free(int warn) {
@@ -127,31 +159,34 @@ static uint32_t until_date(uint32_t number) {
 /* Whether the throttle decides on the holder's requests here: all others have a cause without it. */
 static int rules_decide(int closed) { return holder < 8 && cause(&ptcs[holder], 1, closed) == LOST_THROTTLE; }
 
-/* Still crossings: how many there are, up to the next date. A controller's requests all have one cause, or the throttle decides
- * on them; so the former are owed, a byte for each controller, and go to the tally at the end. A byte lasts for LONGEST. */
+/* Whether a record is a crossing without a marker in which the believed codes stay. */
+static int goes_on(const uint8_t *rec) { return !(word(rec) & 0xFFFF) && stays(rec); }
+
+/* Still crossings, of which the first has been through stays(): how many there are, up to the next date. A controller's requests
+ * all have one cause, or the throttle decides on them; so the former are owed, a byte for each controller, and go to the tally at
+ * the end. A byte lasts for LONGEST. */
 static int stretch(const uint8_t *log, int records, uint8_t *rows) {
-    int most = until_date(next_number), m;
+    int most = until_date(next_number), m = 0;
     int closed = in_gap(next_number), ruled = rules_decide(closed), warn = ruled && ptcs[holder].state == 8;
     uint64_t open = ruled ? 1ull << 8 * holder : 0, owed = 0, sent = 0, refused = 0;
     if (most > records) most = records;
     if (most > LONGEST) most = LONGEST;
-    for (m = 0; m < most; m++) {
-        const uint8_t *rec = log + RECORD * m;
+    do {
         uint8_t *row = rows + ROW * m;
-        uint64_t asks = spread[rec[2]];
-        int carried = 0;
-        if (word(rec) & 0xFFFF || !repeats(rec)) break;
+        uint64_t asks = spread[log[RECORD * m + 2]];
+        int passes = 0;
         drop_oldest(crossings + m);
         if (asks & open) {
-            carried = is_free(warn);
-            sent += carried;
-            refused += !carried;
+            passes = is_free(warn);
+            sent += passes;
+            refused += !passes;
         }
         owed += asks & ~open;
-        mark(crossings + m, carried);
+        mark(crossings + m, passes);
         memcpy(row, still, ROW);
-        if (carried) row[holder] = 16;
-    }
+        if (passes) row[holder] = 16;
+        m++;
+    } while (m < most && goes_on(log + RECORD * m));
     for (; owed; owed = without(owed, first_lane(owed))) {
         uint32_t k = first_lane(owed);
         tally[k][cause(&ptcs[k], k == holder, closed)] += owed >> 8 * k & 255;
@@ -183,7 +218,7 @@ static void drift_one(uint32_t k, uint64_t asks) {
 
 static void plain_crossing(const uint8_t *rec, uint64_t changed, uint8_t *row) {
     uint64_t asks = spread[rec[2]], due = changed | asks | awake;
-    int carried = 0;
+    int passes = 0;
     awake = 0;
     for (; due; due = without(due, first_lane(due))) drift_one(first_lane(due), asks);
     memcpy(row, still, ROW);
@@ -191,11 +226,11 @@ static void plain_crossing(const uint8_t *rec, uint64_t changed, uint8_t *row) {
     if (holder < 8 && rec[2] >> holder & 1) {
         Ptc *p = &ptcs[holder];
         int fate = cause(p, 1, in_gap(next_number));
-        carried = fate == LOST_THROTTLE && is_free(p->state == 8);
-        tally[holder][carried ? SENT : fate]++;
-        row[holder] = 16 * carried;
+        passes = fate == LOST_THROTTLE && is_free(p->state == 8);
+        tally[holder][passes ? SENT : fate]++;
+        row[holder] = 16 * passes;
     }
-    mark(crossings, carried);
+    mark(crossings, passes);
     advance(next_number, 1);
 }
 
@@ -221,8 +256,8 @@ static void dated_crossing(const uint8_t *rec, uint8_t *row) {
 
 /* One crossing, or a stretch of them: how many. */
 static int crossing(const uint8_t *log, int records, uint8_t *rows) {
-    int same = repeats(log);
-    uint64_t changed = same ? 0 : merge(log);
+    int same = stays(log);
+    uint64_t changed = same ? 0 : learn(log);
     if (log[1] || leaving || is_date(next_number)) dated_crossing(log, rows);
     else if (awake || !same) plain_crossing(log, changed, rows);
     else return stretch(log, records, rows);
@@ -247,6 +282,7 @@ static void run(const uint8_t *log, int records, uint8_t *rows) {
 int main(void) {
     if (!open_board()) return 1;
     make_tables();
+    merge();
     replay(run);
     return 0;
 }
