@@ -15,6 +15,7 @@ use Rattle.pieces.proofs.Printing.{printing}
 use Rattle.steady.proofs.Laws.{all-held}
 use Rattle.bounce.proofs.Holds.{holding}
 use Rattle.bounce.proofs.Bounce.{bounce, never-twice}
+use Rattle.bounce.proofs.Sample.{sample}
 use Rattle.slots.proofs.Slots.{slots}
 use Rattle.slots.proofs.Rounds.{rounds}
 use Rattle.programs.proofs.Programs.{no-empty-program}
@@ -40,5 +41,6 @@ promises =
       holding = holding;
       never-twice = never-twice;
       bounce = bounce;
+      sample = sample;
       no-empty-program = no-empty-program;
     }

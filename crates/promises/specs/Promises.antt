@@ -20,7 +20,7 @@ use Rattle.pieces.specs.Pieces.{Pieces}
 use Rattle.pieces.specs.Printing.{Printing}
 use Rattle.steady.specs.Held.{AllHeld}
 use Rattle.bounce.specs.Input.{Holding}
-use Rattle.bounce.specs.Bounce.{Bounce, NeverTwice}
+use Rattle.bounce.specs.Bounce.{Bounce, NeverTwice, Sample}
 use Rattle.slots.specs.Slots.{Slots}
 use Rattle.slots.specs.Rounds.{Rounds}
 use Rattle.programs.specs.Programs.{NoEmptyProgram}
@@ -67,5 +67,6 @@ pub record Promises : Type 0 where
   pub holding : Holding
   pub never-twice : NeverTwice
   pub bounce : Bounce
+  pub sample : Sample
   -- and no program without work meets the contracts
   pub no-empty-program : NoEmptyProgram
