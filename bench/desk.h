@@ -13,15 +13,15 @@ enum { PIECE = 61440, RECORD = 24, ROW = 12, CODES = 21 };
 enum { NONE, READY, WARNING, BUSY, OUT_OF_SYNC, ERROR, BAD, DISCONNECTED };
 enum { NO_CYCLE, ARMED, OPEN };
 enum { LOST_STATE, LOST_SLOT, LOST_GAP, LOST_CAL, LOST_THROTTLE, SENT, FATES };
-/* The places of the settings that are read by name, in the order of their lines. */
+/* The places of the settings that are read by name, in the order of their lines: in set[], ... */
 enum { ORBIT, GAP_LOW, GAP_HIGH, R1_GAP, R2, R3 = R2 + 3, R4 = R3 + 3, WARN_BLOCKS = R4 + 3, IGNORE_DISC, IGNORE_BAD };
-enum { SETTLE_RESYNC = IGNORE_BAD + 1, SETTLE_HARD, RECOVER_RESYNC, RECOVER_HARD, SLOT0 };
-enum { AT_BC0 = SLOT0 + 8, AT_TE, AT_RESYNC, AT_HARD, AT_EC0, AT_OC0, AT_START, AT_STOP, AT_GAP, AT_WTE, AT_CAL };
-enum { PART0 = AT_CAL + 1, SETTINGS = PART0 + 32 };
+enum { SETTLE_RESYNC = IGNORE_BAD + 1, SETTLE_HARD, RECOVER_RESYNC, RECOVER_HARD, SLOT0, SETTINGS = SLOT0 + 8 };
+/* ... and in the schedule of a controller. The partitions, which come last, go to owner[]. */
+enum { BC0, TE, RESYNC, HARD, EC0, OC0, START, STOP, GAP, WTE, CAL, SCHEDULE };
 
 typedef struct {
     uint8_t state, cycle;
-    uint32_t wait;
+    uint32_t wait, at[SCHEDULE];
     uint64_t requested, accepted, lost[SENT], cal_requested, cal_accepted, cal_lost, events;
 } Ptc;
 
@@ -46,22 +46,40 @@ static void take_over(uint32_t first) {
     left_orbits = 0;
 }
 
+/* The values of so many lines: whether they are there. */
+static int values(FILE *text, uint32_t *to, int count) {
+    char line[64];
+    for (; count && fgets(line, sizeof line, text); count--) *to++ = atoi(strchr(line, '=') + 1);
+    return !count;
+}
+
+/* The settings of either edition: the first has no line that names it, and one schedule, which all eight go by. */
+static int read_settings(uint32_t *parts) {
+    uint32_t edition = 1;
+    FILE *text = fopen("board.set", "r");
+    if (!text) return 0;
+    fscanf(text, "edition=%u\n", &edition); /* takes nothing of a text that begins otherwise */
+    if (!values(text, set, SETTINGS)) return 0;
+    for (int k = 0; k < 8; k++)
+        if (k && edition == 1) memcpy(ptcs[k].at, ptcs[0].at, sizeof ptcs[0].at);
+        else if (!values(text, ptcs[k].at, SCHEDULE)) return 0;
+    return values(text, parts, 32);
+}
+
 /* The settings, and the tables that go by them. */
 static int open_board(void) {
     static const uint8_t class_of[16] = {DISCONNECTED, WARNING, OUT_OF_SYNC, BAD, BUSY, BAD, BAD, BAD,
                                          READY, BAD, BAD, BAD, ERROR, BAD, BAD, DISCONNECTED};
-    char line[64];
-    int read = 0;
-    FILE *text = fopen("board.set", "r");
-    while (text && read < SETTINGS && fgets(line, sizeof line, text)) set[read++] = atoi(strchr(line, '=') + 1);
-    for (int n = 0; n < 40; n++) owner[n] = n < 32 ? set[PART0 + n] : (uint32_t)n - 32;
+    uint32_t parts[32];
+    if (!read_settings(parts)) return 0;
+    for (int n = 0; n < 40; n++) owner[n] = n < 32 ? parts[n] : (uint32_t)n - 32;
     for (int half = 0; half < 2; half++)
         for (int code = 0; code < 16; code++) {
             uint8_t c = half && code == 11 ? BUSY : class_of[code];
             rank[half][code] = (c == DISCONNECTED && set[IGNORE_DISC]) || (c == BAD && set[IGNORE_BAD]) ? NONE : c;
         }
     take_over(0);
-    return read == SETTINGS;
+    return 1;
 }
 
 static uint32_t entry_wait(uint8_t s) {
@@ -78,8 +96,8 @@ static uint8_t running(uint8_t c) {
     return c >= BAD ? 9 : c == OUT_OF_SYNC ? 10 : c == ERROR ? 11 : c == READY ? 7 : c == WARNING ? 8 : 6;
 }
 
-static uint8_t timed(Ptc *p, uint32_t number, int at, uint8_t code, uint8_t to) {
-    if (number != set[at]) return 0;
+static uint8_t timed(Ptc *p, uint32_t number, int date, uint8_t code, uint8_t to) {
+    if (number != p->at[date]) return 0;
     p->state = to;
     return code;
 }
@@ -91,18 +109,18 @@ static uint8_t move(Ptc *p, int k, uint32_t number, uint8_t c) {
         return 0;
     }
     switch (p->state) {
-    case 1: code = timed(p, number, AT_RESYNC, 5, 2); break;
+    case 1: code = timed(p, number, RESYNC, 5, 2); break;
     case 2: p->state = c >= OUT_OF_SYNC ? 18 : k ? 4 : 3; break;
-    case 3: code = timed(p, number, AT_OC0, 8, 4); break;
-    case 4: code = timed(p, number, AT_START, 9, 5); break;
-    case 5: code = timed(p, number, AT_EC0, 7, 6); break;
+    case 3: code = timed(p, number, OC0, 8, 4); break;
+    case 4: code = timed(p, number, START, 9, 5); break;
+    case 5: code = timed(p, number, EC0, 7, 6); break;
     case 12: p->state = 13; break;
-    case 13: code = timed(p, number, AT_HARD, 6, 14); break;
+    case 13: code = timed(p, number, HARD, 6, 14); break;
     case 14: p->state = 15; break;
     case 15: p->state = 16; break;
-    case 16: code = timed(p, number, AT_RESYNC, 5, 17); break;
+    case 16: code = timed(p, number, RESYNC, 5, 17); break;
     case 17: p->state = 5; break;
-    case 19: code = timed(p, number, AT_STOP, 10, 0); break;
+    case 19: code = timed(p, number, STOP, 10, 0); break;
     case 6: case 7: case 8: p->state = running(c); break;
     case 9: p->state = c >= BAD ? 9 : 6; break;
     }
@@ -123,11 +141,11 @@ static int cause(const Ptc *p, int own, int closed) {
 static uint8_t act(Ptc *p, int own, uint32_t number, uint8_t code, int asked) {
     int sent = 0, cal = 0;
     if (!runs(p) || (p->cycle == OPEN && !own)) p->cycle = NO_CYCLE;
-    if (!code) code = number == set[AT_BC0] ? 1 : number == set[AT_GAP] ? 11 : 0;
-    if (p->cycle == ARMED && own && number == set[AT_WTE]) {
+    if (!code) code = number == p->at[BC0] ? 1 : number == p->at[GAP] ? 11 : 0;
+    if (p->cycle == ARMED && own && number == p->at[WTE]) {
         p->cycle = OPEN;
         if (!code) code = 13;
-    } else if (p->cycle == OPEN && number == set[AT_TE] && !code)
+    } else if (p->cycle == OPEN && number == p->at[TE] && !code)
         code = 2;
     if (asked) {
         int why = cause(p, own, in_gap(number));
@@ -136,7 +154,7 @@ static uint8_t act(Ptc *p, int own, uint32_t number, uint8_t code, int asked) {
         if (sent) p->accepted++;
         else p->lost[why]++;
     }
-    if (p->cycle == OPEN && number == set[AT_CAL]) {
+    if (p->cycle == OPEN && number == p->at[CAL]) {
         cal = is_free(p->state == 8);
         p->cal_requested++;
         if (cal) p->cal_accepted++;

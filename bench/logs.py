@@ -13,15 +13,20 @@
     all wait           eight controllers that wait for the whole log, up to 2,700,000 crossings
     codes in pairs     a merge at every second crossing: the codes of `codes change`, each carried twice, so that all are believed
     a code bounces     as `holder asks`, with one input that carries a code in no two crossings in a row: it stays believed ready
+    eight schedules    as `eight ask`, but each controller goes by its own schedule: some controller acts at every fortieth number
 
 A code counts when two crossings in a row carry it (P1), so `codes change`, `codes flip` and `anything goes`, which are older and
 had a merge at every crossing, have fewer. They stay as they were: what P1 does to the speed shows in them.
+
+Only `eight schedules` has settings that need edition 2 (P2). The others are written in edition 1, which a desk from before P2 reads
+too: what P2 does to the speed shows in them.
 
 A log is START for each group, three quiet orbits, in which the controllers become ready, and then ten orbits of records, which
 are repeated, since chance is slow to make. So many are not learned by the processor that README.md names: with fifty orbits the
 figures were the same.
 """
 import random
+import re
 from dataclasses import dataclass
 from pathlib import Path
 from typing import Callable
@@ -37,6 +42,10 @@ LOOSE = {"r2_norm": 15, "r2_low": 15, "r3_norm": 63, "r3_low": 63, "r4_norm": 51
 SHORT = {"orbit": 64, "gap_low": 60, "gap_high": 63, "at_gap": 60, "at_bc0": 0, "at_resync": 6, "at_hard": 12, "at_ec0": 18}
 SHORT |= {"at_oc0": 24, "at_start": 30, "at_stop": 36, "at_wte": 42, "at_te": 48, "at_cal": 54}
 LONG_WAITS = {"settle_resync": 255, "settle_hard": 255, "recover_hard": 255}
+# The eleven in the order that the standard schedule has them in, each at eight numbers, one for each controller: every fortieth
+# number up to 3480.
+DATES = ("bc0", "resync", "hard", "ec0", "oc0", "start", "stop", "wte", "te", "gap", "cal")
+OWN = {f"at{k}_{date}": 40 * (8 * n + k) for n, date in enumerate(DATES) for k in range(8)}
 
 
 def crossing(requests=0, codes=READY, marker=False, gtfe=8):
@@ -89,6 +98,12 @@ def working_day(chance, n):
     return crossing(asks, codes, marker=number == 0)
 
 
+def calibrating(chance, n):
+    """As `asked_by_chance`. At an orbit's end CALIBRATE, to each in turn: it calibrates once it holds the slot."""
+    orbit, number = divmod(n, ORBIT + 1)
+    return command(orbit % 8, CALIBRATE) if number == ORBIT else asked_by_chance(chance, n)
+
+
 @dataclass(frozen=True)
 class Log:
     name: str
@@ -96,6 +111,7 @@ class Log:
     groups: int
     record: Callable[[random.Random, int], bytes]  # by its place in the ten orbits
     first: tuple = ()  # records after the quiet orbits
+    edition: int = 1  # of the settings' text
 
 
 LOGS = [
@@ -112,12 +128,21 @@ LOGS = [
     Log("all wait", EIGHT | LONG_WAITS, 8, asked_by_chance, tuple(command(k, HARD) for k in range(8))),
     Log("codes in pairs", {}, 1, paired),
     Log("a code bounces", {}, 1, bouncing),
+    Log("eight schedules", EIGHT | OWN, 8, calibrating, edition=2),
 ]
 
 
+def in_edition_1(lines):
+    """Standard settings of edition 2 as edition 1 has them: no line for the edition, and one schedule for all eight. The standard
+    ones are alike, so that of controller 0 is it."""
+    return [line.replace("at0_", "at_") for line in lines if not re.match("edition=|at[1-7]_", line)]
+
+
 def write(log, records, standard, folder):
-    """Writes the files of a log of so many records, over the standard settings' text, and hands back their folder."""
-    pairs = (line.split("=") for line in standard.splitlines())
+    """Writes the files of a log of so many records, over the standard settings' text, which is of edition 2, and hands back their
+    folder."""
+    lines = standard.splitlines()
+    pairs = (line.split("=") for line in (in_edition_1(lines) if log.edition == 1 else lines))
     text = "".join(f"{key}={log.settings.get(key, value)}\n" for key, value in pairs)
     chance = random.Random(log.name)
     head = [command(k, START) for k in range(log.groups)] + [crossing()] * WARMING + list(log.first)

@@ -4,7 +4,7 @@
  *           goes in one loop;
  *   plain   no marker, no date: only controllers whose members changed, that ask, or that were about to move are looked at;
  *   dated   everything else: all eight in full, as in plain.c.
- * A date is a number at which some controller may act: 0, and every `at_` of the settings. */
+ * A date is a number at which some controller may act: 0, and those of all eight schedules. */
 #include "desk.h"
 
 enum { RULES = 4, LONGEST = 255 };
@@ -42,7 +42,8 @@ static void make_tables(void) {
     for (int r = 0; r < 256; r++)
         for (int k = 0; k < 8; k++) spread[r] |= (uint64_t)(r >> k & 1) << 8 * k;
     dates[0] = 1;
-    for (int at = AT_BC0; at <= AT_CAL; at++) dates[set[at] / 64] |= 1ull << set[at] % 64;
+    for (int k = 0; k < 8; k++)
+        for (int d = 0; d < SCHEDULE; d++) dates[ptcs[k].at[d] / 64] |= 1ull << ptcs[k].at[d] % 64;
     for (int s = 0; s < 20; s++)
         for (int c = 0; c < 8; c++) drifts[s][c] = drift(s, c);
     periods[0] = set[R1_GAP] + 1;

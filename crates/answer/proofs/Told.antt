@@ -13,14 +13,15 @@ use Rattle.answer.specs.Told.{Told, told, succeeded, DONE, unless}
 unfoldable answerOf : Told → Answer
 answerOf t =
     let value : ℕ = getD (t .carries) 0 0 in
-    getD (Done ∷ Text value ∷ Range value ∷ Relation value ∷ Board ∷ Length ∷ Room value ∷ Record value ∷ Life ∷ []) (t .number) Done
+    let second : ℕ = getD (t .carries) 1 0 in
+    getD (Done ∷ Text value ∷ Range value ∷ Relation value second ∷ Board ∷ Length ∷ Room value ∷ Record value ∷ Life ∷ []) (t .number) Done
 
 back : (a : Answer) → answerOf (told a) ≡ a
 unfolding answerOf
 back Done = refl
 back (Text line) = refl
 back (Range line) = refl
-back (Relation which) = refl
+back (Relation which controller) = refl
 back Board = refl
 back Length = refl
 back (Room needed) = refl
@@ -35,7 +36,7 @@ pub told-done : (a : Answer) → succeeded (told a) ≡ true → told a ≡ DONE
 told-done Done e = refl
 told-done (Text line) e = absurd (false≢true e)
 told-done (Range line) e = absurd (false≢true e)
-told-done (Relation which) e = absurd (false≢true e)
+told-done (Relation which controller) e = absurd (false≢true e)
 told-done Board e = absurd (false≢true e)
 told-done Length e = absurd (false≢true e)
 told-done (Room needed) e = absurd (false≢true e)

@@ -20,8 +20,9 @@ TEXT line = record { number = 1; carries = line ∷ [] }
 abbrev pub RANGE : ℕ → Told
 RANGE line = record { number = 2; carries = line ∷ [] }
 
-abbrev pub RELATION : ℕ → Told
-RELATION which = record { number = 3; carries = which ∷ [] }
+-- document 02, P2: the controller too, 0 for relations 1 and 5
+abbrev pub RELATION : (which controller : ℕ) → Told
+RELATION which controller = record { number = 3; carries = which ∷ controller ∷ [] }
 
 abbrev pub BOARD : Told
 BOARD = record { number = 4; carries = [] }
@@ -43,7 +44,7 @@ abbrev pub told : Answer → Told
 told Done = DONE
 told (Text line) = TEXT line
 told (Range line) = RANGE line
-told (Relation which) = RELATION which
+told (Relation which controller) = RELATION which controller
 told Board = BOARD
 told Length = LENGTH
 told (Room needed) = ROOM needed

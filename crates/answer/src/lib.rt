@@ -7,8 +7,8 @@ pub enum Answer {
     // The line of a settings text, counted from 1.
     Text(usize),
     Range(usize),
-    // The number of the relation that fails.
-    Relation(usize),
+    // The number of the relation that fails, and the controller.
+    Relation(usize, usize),
     Board,
     Length,
     // The bytes that the output needs.
@@ -27,7 +27,7 @@ impl Answer {
             Answer::Done => 0,
             Answer::Text(_) => 1,
             Answer::Range(_) => 2,
-            Answer::Relation(_) => 3,
+            Answer::Relation(_, _) => 3,
             Answer::Board => 4,
             Answer::Length => 5,
             Answer::Room(_) => 6,

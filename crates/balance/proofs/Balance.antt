@@ -29,7 +29,7 @@ use Rattle.records.specs.Rows.{commandRow}
 use Rattle.records.specs.Refusal.{recordsIn}
 use Rattle.board.specs.declared.Board.{Board}
 use Rattle.ptc.specs.Fresh.{freshPtc}
-use Rattle.board.specs.Command.{commandIn, boardCommanded, rowCommanded}
+use Rattle.board.specs.Command.{commandIn, commandBy, commandedBy, commandRowBy}
 use Rattle.board.specs.Run.{stepped, rowOf, ran}
 use Rattle.board.specs.Sound.{soundBoard}
 use Rattle.board.specs.Fresh.{freshBoard}
@@ -92,30 +92,30 @@ module _ {s : Settings} {log buffer : List ℕ} (t : Taken s log buffer) (k : �
       )
 
   -- at at_wte no other code is due, and a cycle has three values
-  pub away : scheduleOf s .wte ≡ scheduleOf s .bc0 → ⊥
-  away e = times-apart s (t .checks) 0 9 (lit< tt) (lit< tt) (sym e)
+  pub away : scheduleOf s k .wte ≡ scheduleOf s k .bc0 → ⊥
+  away e = times-apart s (t .checks) k 0 9 (lit< tt) (lit< tt) (rw add-zero (sym e))
 
-  pub later : scheduleOf s .wte ≡ scheduleOf s .gap → ⊥
-  later e = times-apart s (t .checks) 8 9 (lit< tt) (lit< tt) (sym e)
+  pub later : scheduleOf s k .wte ≡ scheduleOf s k .gap → ⊥
+  later e = times-apart s (t .checks) k 8 9 (lit< tt) (lit< tt) (sym e)
 
   pub few : (i : ℕ) → Crossing log i → ptcIn s log i k .cycle ≤ 2
   few i c = cycle-few (before i) (fit-at t i (omega (arith, c .among))) k
 
   past-crossing : (i : ℕ) (c : Crossing log i) → Follows (reading i) (ptcIn s log i k)
-      → Follows (pastCrossing s (lookAt s log rows k i) (reading i)) (ptcIn s log (suc i) k)
+      → Follows (pastCrossing s k (lookAt s log rows k i) (reading i)) (ptcIn s log (suc i) k)
   past-crossing i c f =
       rw (look-told i c, next-told t c k low)
       (crossing-follows s (sceneIn s log i) k (classIn s log i k) (askedIn (getD (recAt log i) 2 0) k) (ptcIn s log i k) away later (few i c) (reading i) f)
 
   module _ (i : ℕ) (h : i < recordsIn log) (kind : isCrossing (recAt log i) ≡ false) where
     says-taken : takenIn (rowAt rows i) ≡ commandIn (before i) (recAt log i) .taken
-    unfolding rowOf rowCommanded
+    unfolding rowOf commandRowBy
     says-taken =
         let row : rowAt rows i ≡ commandRow (commandIn (before i) (recAt log i) .taken) = row-at t i h ∙ rw kind in
         rw row (row-taken (commandIn (before i) (recAt log i) .taken))
 
     set-next : before (suc i) .ptcs ≡ set (before i .ptcs) (getD (recAt log i) 1 0) (commandIn (before i) (recAt log i) .ptc)
-    unfolding ran stepped boardCommanded
+    unfolding ran stepped commandedBy
     set-next = rw kind
 
     to-other : eqb (getD (recAt log i) 1 0) k ≡ false → Follows (reading i) (ptcIn s log i k)
@@ -127,7 +127,7 @@ module _ {s : Settings} {log buffer : List ℕ} (t : Taken s log buffer) (k : �
 
     to-this : eqb (getD (recAt log i) 1 0) k ≡ true → Follows (reading i) (ptcIn s log i k)
         → Follows (pastCommand (recAt log i) (rowAt rows i) k (reading i)) (ptcIn s log (suc i) k)
-    unfolding commandIn
+    unfolding commandBy
     to-this e f =
         let same : getD (recAt log i) 1 0 ≡ k = eqb-true (getD (recAt log i) 1 0) k e in
         let inside : k < length (before i .ptcs) = omega (arith, fit-at t i (omega arith) .ptcs) in

@@ -40,16 +40,16 @@ fate-sent true true false false false = refl
 
 module _ (s : Settings) (scene : Scene) (k class : ℕ) (asked : Bool) (p : Ptc) where
   abbrev busy : Bool
-  busy = eqb (cycle (planOf s) scene k class asked p) OPEN
+  busy = eqb (cycle (planOf s k) scene k class asked p) OPEN
 
   request-due : lookOf s scene k class asked p .sent ≡ due s (lookOf s scene k class asked p) busy
   unfolding crossedOf fateOf
   request-due =
-      let state = crossedOf (planOf s) scene k class asked p .ptc .state in
+      let state = crossedOf (planOf s k) scene k class asked p .ptc .state in
       ap (λ (x : Bool). asked && x)
       (fate-sent (running state) (eqb k (scene .holder)) (inGap (gapOf s) (scene .number)) busy (freeIn scene state))
 
-  calibration-due : lookOf s scene k class asked p .cal ≡ calDue s (lookOf s scene k class asked p) busy
+  calibration-due : lookOf s scene k class asked p .cal ≡ calDue s k (lookOf s scene k class asked p) busy
   unfolding crossedOf asksOf
   calibration-due = refl
 

@@ -99,7 +99,7 @@ module _ (s : Settings) (scene : Scene) (k class : ℕ) (asked : Bool) (p : Ptc)
   -- what a bench sees where the row is this crossing's
   abbrev pub lookOf : Look
   lookOf =
-      let x = crossedOf (planOf s) scene k class asked p in
+      let x = crossedOf (planOf s k) scene k class asked p in
       record {
         asked = asked;
         sent = x .sent;
@@ -112,37 +112,37 @@ module _ (s : Settings) (scene : Scene) (k class : ℕ) (asked : Bool) (p : Ptc)
       }
 
   abbrev now : ℕ
-  now = cycle (planOf s) scene k class asked p
+  now = cycle (planOf s k) scene k class asked p
 
   abbrev state : ℕ
-  state = moved (planOf s) scene k class asked p .state
+  state = moved (planOf s k) scene k class asked p .state
 
-  module _ (away : scheduleOf s .wte ≡ scheduleOf s .bc0 → ⊥) (later : scheduleOf s .wte ≡ scheduleOf s .gap → ⊥) (few : p .cycle ≤ 2) where
+  module _ (away : scheduleOf s k .wte ≡ scheduleOf s k .bc0 → ⊥) (later : scheduleOf s k .wte ≡ scheduleOf s k .gap → ⊥) (few : p .cycle ≤ 2) where
     pub opens-same : (before : Bool) → before ≡ eqb (p .cycle) OPEN → opens lookOf before ≡ eqb now OPEN
     unfolding opens keptOf openedOf crossedOf
     opens-same before e =
-        rw (e, code-opens (planOf s) scene k class asked p away later)
-        (open-cases (running state) (eqb k (scene .holder)) (eqb (scene .number) (scheduleOf s .wte)) (p .cycle) few)
+        rw (e, code-opens (planOf s k) scene k class asked p away later)
+        (open-cases (running state) (eqb k (scene .holder)) (eqb (scene .number) (scheduleOf s k .wte)) (p .cycle) few)
 
-    counts-same : counted (gapOf s) lookOf (eqb now OPEN) (asksOf (scheduleOf s) (scene .number) now) (p .counts)
-        ≡ crossedOf (planOf s) scene k class asked p .ptc .counts
+    counts-same : counted (gapOf s) lookOf (eqb now OPEN) (asksOf (scheduleOf s k) (scene .number) now) (p .counts)
+        ≡ crossedOf (planOf s k) scene k class asked p .ptc .counts
     unfolding counted calCounted cause crossedOf fateOf
     counts-same =
         let free = freeIn scene state in
-        let asks = asksOf (scheduleOf s) (scene .number) now in
+        let asks = asksOf (scheduleOf s k) (scene .number) now in
         let fate = fateOf (gapOf s) (scene .number) state (eqb k (scene .holder)) now free in
         rw (calibrations-same asks free (p .counts .cal)) (requests-same asked fate (p .counts) (calibratedOf asks free (p .counts .cal)))
 
-    ends-same : eqb now OPEN && not (asksOf (scheduleOf s) (scene .number) now) ≡ eqb (crossedOf (planOf s) scene k class asked p .ptc .cycle) OPEN
+    ends-same : eqb now OPEN && not (asksOf (scheduleOf s k) (scene .number) now) ≡ eqb (crossedOf (planOf s k) scene k class asked p .ptc .cycle) OPEN
     unfolding asksOf crossedOf
-    ends-same = ends-cases (eqb (scene .number) (scheduleOf s .cal)) now
+    ends-same = ends-cases (eqb (scene .number) (scheduleOf s k .cal)) now
 
     events-same : (before : ℕ) → before ≡ p .events
-        → if (eqb (lookOf .code) 7) 0 before + one (lookOf .sent || lookOf .cal) ≡ crossedOf (planOf s) scene k class asked p .ptc .events
+        → if (eqb (lookOf .code) 7) 0 before + one (lookOf .sent || lookOf .cal) ≡ crossedOf (planOf s k) scene k class asked p .ptc .events
     unfolding crossedOf
-    events-same before e = rw (code-restarts (planOf s) scene k class asked p, e)
+    events-same before e = rw (code-restarts (planOf s k) scene k class asked p, e)
 
-    pub crossing-follows : (r : Reading) → Follows r p → Follows (pastCrossing s lookOf r) (crossedOf (planOf s) scene k class asked p .ptc)
+    pub crossing-follows : (r : Reading) → Follows r p → Follows (pastCrossing s k lookOf r) (crossedOf (planOf s k) scene k class asked p .ptc)
     unfolding pastCrossing asksOf
     crossing-follows r f =
         let o = opens-same (r .calibrating) (f .calibrating) in

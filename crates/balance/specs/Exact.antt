@@ -16,8 +16,8 @@ abbrev pub due : Settings → Look → Bool → Bool
 due s l busy = l .asked && (l .runs && (l .own && (not (inGap (gapOf s) (l .number)) && (not busy && l .clear))))
 
 -- a calibration trigger is due where an open cycle asks at its number and the rules are clear
-abbrev pub calDue : Settings → Look → Bool → Bool
-calDue s l busy = asksFor s l busy && l .clear
+abbrev pub calDue : Settings → ℕ → Look → Bool → Bool
+calDue s k l busy = asksFor s k l busy && l .clear
 
 -- controller k's cycle is open in crossing i
 abbrev pub busyIn : Settings → List ℕ → List ℕ → ℕ → ℕ → Bool
@@ -26,7 +26,7 @@ busyIn s log rows k i = opens (lookAt s log rows k i) (readingOf s log rows k i 
 -- sent exactly where due
 pub record Exact (s : Settings) (log rows : List ℕ) (k i : ℕ) : Type 0 where
   pub request : lookAt s log rows k i .sent ≡ due s (lookAt s log rows k i) (busyIn s log rows k i)
-  pub calibration : lookAt s log rows k i .cal ≡ calDue s (lookAt s log rows k i) (busyIn s log rows k i)
+  pub calibration : lookAt s log rows k i .cal ≡ calDue s k (lookAt s log rows k i) (busyIn s log rows k i)
 
 -- of any log that a fresh board accepts, for each controller and in every crossing
 abbrev pub Exactly : Type 0

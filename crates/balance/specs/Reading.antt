@@ -87,15 +87,15 @@ counted gap l busy asks c = record {
   cal = calCounted l asks (c .cal);
 }
 
--- an open cycle asks its trigger at at_cal
-abbrev pub asksFor : Settings → Look → Bool → Bool
-asksFor s l busy = busy && eqb (l .number) (scheduleOf s .cal)
+-- an open cycle of controller k asks its trigger at its own at_cal (document 02, P2)
+abbrev pub asksFor : Settings → ℕ → Look → Bool → Bool
+asksFor s k l busy = busy && eqb (l .number) (scheduleOf s k .cal)
 
 -- and ends there
-unfoldable pub pastCrossing : Settings → Look → Reading → Reading
-pastCrossing s l r =
+unfoldable pub pastCrossing : Settings → ℕ → Look → Reading → Reading
+pastCrossing s k l r =
     let busy = opens l (r .calibrating) in
-    let asks = asksFor s l busy in
+    let asks = asksFor s k l busy in
     record {
       calibrating = busy && not asks;
       counts = counted (gapOf s) l busy asks (r .counts);
@@ -114,4 +114,4 @@ unfoldable pub readingOf : Settings → List ℕ → List ℕ → ℕ → ℕ �
 readingOf s log rows k zero = unread
 readingOf s log rows k (suc i) =
     let r = readingOf s log rows k i in
-    if (isCrossing (recAt log i)) (pastCrossing s (lookAt s log rows k i) r) (pastCommand (recAt log i) (rowAt rows i) k r)
+    if (isCrossing (recAt log i)) (pastCrossing s k (lookAt s log rows k i) r) (pastCommand (recAt log i) (rowAt rows i) k r)

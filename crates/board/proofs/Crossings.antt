@@ -24,7 +24,7 @@ use Rattle.records.proofs.Laws.{code-low}
 use Rattle.board.specs.declared.Board.{Board}
 use Rattle.kit.specs.declared.Kit.{Kit}
 use Rattle.kit.specs.support.Laid.{kitOf}
-use Rattle.board.specs.Crossing.{turnIn}
+use Rattle.board.specs.Crossing.{turnIn, turnBy}
 use Rattle.board.specs.Sound.{soundBoard}
 use Rattle.board.proofs.Settled.{sound-parts}
 use Rattle.kit.proofs.Settled.{slot-room, sensible, orbit-some}
@@ -60,7 +60,7 @@ module _ (b : Board) (kit : Kit) (own : kit ≡ kitOf (b .settings)) where
 module _ (b : Board) (kit : Kit) (own : kit ≡ kitOf (b .settings)) where
   pub turn-is : (rec : List ℕ) (ends : Bool) (turn : Turn) → ends ≡ orbitEnds (b .clock) (markerIn rec) → turn ≡ turnedOf (kit .slots) ends (b .turn)
       → turn ≡ turnIn b (markerIn rec)
-  unfolding kitOf turnIn
+  unfolding kitOf turnBy
   turn-is rec ends turn e t = t ∙ rw (e, own)
 
   pub classes-is : (codes got : List ℕ) → Coded codes → got ≡ laneClasses (kit .lanes) codes → got ≡ classes (b .settings) codes

@@ -32,10 +32,10 @@ use Rattle.records.specs.Refusal.{LIFETIME}
 use Rattle.records.proofs.Laws.{crossings-below, well-at, gtfe-low, row-long, command-row-long}
 use Rattle.board.specs.declared.Board.{Board}
 use Rattle.kit.specs.Kit.{slotsOf, planOf}
-use Rattle.board.specs.Crossing.{turnIn, sceneOf, classesIn, eight, boardCrossed, rowCrossed}
+use Rattle.board.specs.Crossing.{turnIn, turnBy, sceneOf, sceneBy, classesIn, eight, boardCrossed, crossedBy, crossingRowBy}
 use Rattle.eight.specs.Eight.{actOf, ptcOf, byteOf, shownOf, clockOf, soundAt}
 use Rattle.ptc.specs.Fresh.{freshPtc}
-use Rattle.board.specs.Command.{commandIn, boardCommanded, rowCommanded}
+use Rattle.board.specs.Command.{commandIn, commandBy, boardCommanded, commandedBy, commandRowBy}
 use Rattle.board.specs.Run.{stepped, rowOf, ran, rowsOf}
 use Rattle.eight.specs.Eight.{soundEight}
 use Rattle.board.specs.Sound.{soundBoard}
@@ -48,11 +48,11 @@ use Rattle.kit.proofs.Settled.{waits-sound, slots-long, orbit-some}
 
 module _ (b : Board) (rec : List ℕ) where
   pub crossed-settings : boardCrossed b rec .settings ≡ b .settings
-  unfolding boardCrossed
+  unfolding crossedBy
   crossed-settings = refl
 
   pub commanded-settings : boardCommanded b rec .settings ≡ b .settings
-  unfolding boardCommanded
+  unfolding commandedBy
   commanded-settings = refl
 
   pub stepped-settings : stepped b rec .settings ≡ b .settings
@@ -60,11 +60,11 @@ module _ (b : Board) (rec : List ℕ) where
   stepped-settings = if-has (λ (x : Board). x .settings ≡ b .settings) (isCrossing rec) _ _ (λ e. crossed-settings) (λ e. commanded-settings)
 
   pub crossed-count : boardCrossed b rec .clock .crossings ≡ b .clock .crossings + 1
-  unfolding boardCrossed clockOf tickedOf
+  unfolding crossedBy clockOf tickedOf
   crossed-count = refl
 
   pub commanded-count : boardCommanded b rec .clock .crossings ≡ b .clock .crossings
-  unfolding boardCommanded
+  unfolding commandedBy
   commanded-count = refl
 
   pub stepped-count : stepped b rec .clock .crossings ≡ b .clock .crossings + one (isCrossing rec)
@@ -76,14 +76,14 @@ module _ (b : Board) (rec : List ℕ) where
       (either (isCrossing rec))
 
   pub stepped-ptcs-long : length (stepped b rec .ptcs) ≡ length (b .ptcs)
-  unfolding stepped boardCrossed boardCommanded
+  unfolding stepped crossedBy commandedBy
   stepped-ptcs-long =
       if-has (λ (x : Board). length (x .ptcs) ≡ length (b .ptcs)) (isCrossing rec) _ _
       (λ e. length-mapI _ 0 (b .ptcs))
       (λ e. length-set (b .ptcs) _ _)
 
   pub stepped-marks-long : length (stepped b rec .marks) ≡ length (b .marks)
-  unfolding stepped boardCrossed boardCommanded
+  unfolding stepped crossedBy commandedBy
   stepped-marks-long =
       if-has (λ (x : Board). length (x .marks) ≡ length (b .marks)) (isCrossing rec) _ _
       (λ e. passed-long (b .marks) _ _)
@@ -106,7 +106,7 @@ cleared-sound most orbit t true e =
 -- the eight among one crossing more, with the holder of this crossing
 eight-crossed : (b : Board) (rec : List ℕ) → Parts b
     → soundEight (turnIn b (markerIn rec) .holder) (b .clock .crossings + 1) (eight ptcOf b rec) ≡ true
-unfolding soundEight sceneOf actOf
+unfolding soundEight sceneBy actOf
 eight-crossed b rec p =
     let s = b .settings in
     let scene = sceneOf b (markerIn rec) in
@@ -114,13 +114,13 @@ eight-crossed b rec p =
     let m = b .clock .crossings in
     let asked = askedIn (getD rec 2 0) in
     let w = waits-sound s (p .checks) in
-    alli-mapI (soundAt own m) (soundAt (scene .holder) (m + 1)) (ptcOf (planOf s) scene (classesIn b rec) (getD rec 2 0))
-    (λ k q h. crossed-sound (planOf s) scene k (getD (classesIn b rec) k 0) (asked k) (eqb k own) m q w h)
+    alli-mapI (soundAt own m) (soundAt (scene .holder) (m + 1)) (λ k. ptcOf (planOf s k) scene (classesIn b rec) (getD rec 2 0) k)
+    (λ k q h. crossed-sound (planOf s k) scene k (getD (classesIn b rec) k 0) (asked k) (eqb k own) m q w h)
     0 (b .ptcs) (p .eight)
 
 pub crossing-sound : (b : Board) (rec : List ℕ) → length (b .marks) ≡ 32 → b .clock .crossings < LIFETIME → getD (codesIn rec) 0 0 < 16 → soundBoard b ≡ true
     → soundBoard (boardCrossed b rec) ≡ true
-unfolding boardCrossed clockOf turnIn tickedOf
+unfolding crossedBy clockOf turnBy tickedOf
 crossing-sound b rec long room gtfe e =
     let p = sound-parts b e in
     let orbit = orbitOf (b .settings) in
@@ -139,7 +139,7 @@ crossing-sound b rec long room gtfe e =
 
 -- a fresh controller is sound at every place and among any crossings, so it may stand for one past the end
 eight-commanded : (b : Board) (rec : List ℕ) → Parts b → soundEight (b .turn .holder) (b .clock .crossings) (boardCommanded b rec .ptcs) ≡ true
-unfolding soundEight boardCommanded commandIn
+unfolding soundEight commandedBy commandBy
 eight-commanded b rec p =
     let k = getD rec 1 0 in
     let own = b .turn .holder in
@@ -150,7 +150,7 @@ eight-commanded b rec p =
     alli-set (soundAt own m) 0 (b .ptcs) k (commandIn b rec .ptc) (p .eight) (rw zero-add new)
 
 pub command-sound : (b : Board) (rec : List ℕ) → soundBoard b ≡ true → soundBoard (boardCommanded b rec) ≡ true
-unfolding boardCommanded
+unfolding commandedBy
 command-sound b rec e =
     let p = sound-parts b e in
     parts-sound (boardCommanded b rec)
@@ -227,7 +227,7 @@ ran-fit n b log f life formed (suc i) h =
 -- ---- rows
 
 pub row-of-long : (b : Board) (rec : List ℕ) → length (b .ptcs) ≡ 8 → length (rowOf b rec) ≡ 12
-unfolding rowOf rowCrossed rowCommanded
+unfolding rowOf crossingRowBy commandRowBy
 row-of-long b rec long =
     if-has (λ (r : List ℕ). length r ≡ 12) (isCrossing rec) _ _
     (λ e. row-long (eight byteOf b rec) (eight shownOf b rec) (length-mapI _ 0 (b .ptcs) ∙ long) (length-mapI _ 0 (b .ptcs) ∙ long))

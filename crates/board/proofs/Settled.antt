@@ -7,7 +7,7 @@ use Rattle.laws.proofs.Bools.{both}
 use Rattle.answer.specs.Told.{DONE, succeeded}
 use Rattle.settings.specs.Names.{orbitOf}
 use Rattle.settings.specs.Check.{checked}
-use Rattle.settings.proofs.Bounds.{done-checks, checks-done}
+use Rattle.settings.proofs.Passed.{done-checks, checks-done}
 use Rattle.steady.specs.Held.{soundHeld}
 use Rattle.throttle.specs.Sound.{soundMarks}
 use Rattle.clock.specs.Clock.{soundClock}

@@ -13,7 +13,7 @@ use borrow.Author.Tests.{eq-eqb, ne-eqb}
 use borrow.Rule.Slice.PartMut.{putMid}
 use Rattle.laws.specs.Base.{mapI, one, allB}
 use Rattle.laws.proofs.Bools.{both}
-use Rattle.laws.proofs.Over.{length-mapI, getD-mapI}
+use Rattle.laws.proofs.Over.{length-mapI, getD-mapI, getD-tabulate}
 use Rattle.laws.proofs.Maps.{map-is}
 use Rattle.status.specs.Codes.{Coded}
 use Rattle.lanes.specs.support.Lanes.{laneClasses}
@@ -30,7 +30,9 @@ use Rattle.clock.specs.declared.Clock.{Clock}
 use Rattle.clock.specs.Clock.{numberOf}
 use Rattle.clock.specs.support.Room.{ClockRoom, SlotRoom}
 use Rattle.states.specs.Names.{statusOf}
+use Rattle.states.specs.Moves.{orbitCode}
 use Rattle.ptc.specs.declared.Ptc.{Ptc}
+use Rattle.ptc.specs.declared.Plan.{Plan}
 use Rattle.ptc.specs.declared.Scene.{Scene}
 use Rattle.ptc.specs.declared.Crossed.{Crossed}
 use Rattle.ptc.specs.declared.Commanded.{Commanded}
@@ -45,18 +47,18 @@ use Rattle.records.proofs.Laws.{rec-long, rec-byte, rec-bytes, well-at, command
 use Rattle.records.proofs.Laid.{laid}
 use Rattle.kit.specs.declared.Kit.{Kit}
 use Rattle.kit.specs.Kit.{planOf}
-use Rattle.kit.specs.support.Laid.{kitOf}
+use Rattle.kit.specs.support.Laid.{busyOf, kitOf}
 use Rattle.eight.specs.Eight.{actOf, ptcOf, byteOf, shownOf, clockOf}
 use Rattle.eight.proofs.Eight.{room-at, shown-low}
 use Rattle.still.specs.declared.Sight.{Sight}
 use Rattle.still.specs.support.Still.{dueOf}
 use Rattle.still.specs.support.Sight.{firstSight, sightOf, sceneFor}
-use Rattle.still.proofs.Passing.{passed as passes, passed-over, due-low}
+use Rattle.still.proofs.Passing.{passed as passes, passed-over, plain-code, due-low}
 use Rattle.still.proofs.Seen.{wholeScene, scene-seen}
 use Rattle.still.proofs.Acting.{Quiet, Acted}
 use Rattle.board.specs.declared.Board.{Board}
-use Rattle.board.specs.Crossing.{withPtcs, turnIn, sceneOf, classesIn, eight, boardCrossed, rowCrossed}
-use Rattle.board.specs.Command.{commandIn, boardCommanded, rowCommanded}
+use Rattle.board.specs.Crossing.{withPtcs, turnIn, sceneOf, sceneBy, classesIn, eight, crossedBy, crossingRowBy}
+use Rattle.board.specs.Command.{commandBy, commandedBy, commandRowBy}
 use Rattle.board.specs.Run.{stepped, rowOf, ran, rowsOf}
 use Rattle.board.specs.support.Loop.{settled}
 use Rattle.board.proofs.Settled.{sound-parts}
@@ -64,6 +66,17 @@ use Rattle.board.proofs.Crossings.{coded, clock-room, turn-asked, scene
 use Rattle.board.proofs.Keeps.{Fit, ran-settings, ran-room, ran-ptcs-long, ran-fit, row-of-long, rows-long}
 
 -- ---- the loop's invariant
+
+-- what a table of plans reads as past its end
+abbrev noPlan : Plan
+noPlan = record {
+  at = record { bc0 = 0; te = 0; resync = 0; hard = 0; ec0 = 0; oc0 = 0; start = 0; stop = 0; gap = 0; wte = 0; cal = 0 };
+  waits = record { settle = record { resync = 0; hard = 0 }; recover = record { resync = 0; hard = 0 } };
+  gap = record { low = 0; high = 0 };
+}
+
+abbrev pub plansIn : Kit → ℕ → Plan
+plansIn kit k = getD (kit .plans) k noPlan
 
 -- all eight are at rest under these classes, and show what is kept of them
 pub record Calm (got shown : List ℕ) (ps : List Ptc) : Type 0 where
@@ -101,7 +114,7 @@ stands-first first log n old kit sight codes e =
     }
 
 -- a turn: the block that is run, which is not refused, and the state before its record i
-pub record Begun (first : Board) (log : List ℕ) (n : ℕ) (old : List ℕ) (kit : Kit) (rows : List ℕ) (kept : Board) (clock : Clock) (held : Held)
+pub record Begun (first : Board) (log : List ℕ) (n : ℕ) (old : List ℕ) (kit : Kit) (busy rows : List ℕ) (kept : Board) (clock : Clock) (held : Held)
     (sight : Sight) (shown : List ℕ) (calm : Bool) (i : ℕ) : Type 0 where
   pub fit : Fit first
   pub long : length log ≡ 24 * n
@@ -110,11 +123,12 @@ pub record Begun (first : Board) (log : List ℕ) (n : ℕ) (old : List ℕ) (ki
   pub life : first .clock .crossings + crossingsIn n log ≤ LIFETIME
   pub bytes : (k : ℕ) → getD log k 0 < 256
   pub made : kit ≡ kitOf (first .settings)
+  pub marked : busy ≡ busyOf (first .settings)
   pub less : i < n
   pub here : Stands first log n old kit rows kept clock held sight shown calm i
 
-module _ {first : Board} {log : List ℕ} {n : ℕ} {old : List ℕ} {kit : Kit} {rows : List ℕ} {kept : Board} {clock : Clock} {held : Held}
-    {sight : Sight} {shown : List ℕ} {calm : Bool} {i : ℕ} (t : Begun first log n old kit rows kept clock held sight shown calm i) where
+module _ {first : Board} {log : List ℕ} {n : ℕ} {old : List ℕ} {kit : Kit} {busy rows : List ℕ} {kept : Board} {clock : Clock} {held : Held}
+    {sight : Sight} {shown : List ℕ} {calm : Bool} {i : ℕ} (t : Begun first log n old kit busy rows kept clock held sight shown calm i) where
   -- the board before this record
   abbrev now : Board
   now = settled kept clock (sight .turn) held
@@ -130,6 +144,13 @@ module _ {first : Board} {log : List ℕ} {n : ℕ} {old : List ℕ} {kit : Kit}
 
   own-at : kit ≡ kitOf (now .settings)
   own-at = t .made ∙ rw (t .here .board, ran-settings first log i)
+
+  busy-at : busy ≡ busyOf (now .settings)
+  busy-at = t .marked ∙ rw (t .here .board, ran-settings first log i)
+
+  plan-at : (k : ℕ) → k < 8 → plansIn kit k ≡ planOf (now .settings) k
+  unfolding kitOf
+  plan-at k h = rw own-at (getD-tabulate (planOf (now .settings)) 0 8 k _ h ∙ rw zero-add)
 
   long-at : length rec ≡ 24
   long-at = rec-long log i n (t .long) (t .less)
@@ -187,10 +208,10 @@ module _ {first : Board} {log : List ℕ} {n : ℕ} {old : List ℕ} {kit : Kit}
   named k = rw (byte-at 1 (omega arith)) (command-kind rec well-here k .1)
 
   pub command-stands : (o : Commanded) (row part : List ℕ) → isCrossing rec ≡ false
-      → o ≡ commandedOf (kit .plan .waits) (getD log (24 * i + 2) 0) (getD (kept .ptcs) (getD log (24 * i + 1) 0) freshPtc)
+      → o ≡ commandedOf (kit .waits) (getD log (24 * i + 2) 0) (getD (kept .ptcs) (getD log (24 * i + 1) 0) freshPtc)
       → row ≡ commandRow (o .taken) → part ≡ row ++ drop 12 (take (length rows - 12 * i) (drop (12 * i) rows))
       → Stands first log n old kit (putMid (12 * i) (length rows - 12 * i) rows part) (withPtcs kept (set (kept .ptcs) (getD log (24 * i + 1) 0) (o .ptc))) clock held sight shown false (i + 1)
-  unfolding stepped rowOf boardCommanded rowCommanded commandIn kitOf
+  unfolding stepped rowOf commandedBy commandRowBy commandBy kitOf
   command-stands o row part k e r p =
       let is = rw (byte-at 1 (omega arith), byte-at 2 (omega arith), own-at) at e in
       stands _ clock held sight shown false part
@@ -226,8 +247,8 @@ module _ {first : Board} {log : List ℕ} {n : ℕ} {old : List ℕ} {kit : Kit}
     pub rules-asked : Sensible (kit .rules)
     rules-asked = scene-asked now kit own-at (fit-at .sound) .2
 
-    module _ (seen : Sight) (looks : seen ≡ sightOf (kit .plan .at) (kit .lanes) (kit .slots) clock (sight .turn) calm (held .carried) (held .believed) rec)
-        (scene : Scene) (sees : scene ≡ sceneFor (kit .plan) (kit .rules) (kit .blocks) (getD (kept .ptcs) (seen .turn .holder % 8) freshPtc) seen (kept .marks) clock) where
+    module _ (seen : Sight) (looks : seen ≡ sightOf busy (kit .lanes) (kit .slots) clock (sight .turn) calm (held .carried) (held .believed) rec)
+        (scene : Scene) (sees : scene ≡ sceneFor (plansIn kit (seen .turn .holder % 8)) (kit .rules) (kit .blocks) (getD (kept .ptcs) (seen .turn .holder % 8) freshPtc) seen (kept .marks) clock) where
       -- the believed codes with those of this crossing
       abbrev next : List ℕ
       next = believedOf (held .carried) (held .believed) (codesIn rec)
@@ -260,7 +281,7 @@ module _ {first : Board} {log : List ℕ} {n : ℕ} {old : List ℕ} {kit : Kit}
       unfolding nextHeld
       classes-at = classes-is now kit own-at next _ next-coded votes-at
 
-      due-at : seen .due ≡ dueOf (calm && sameBytes 21 (held .believed) next) (kit .plan .at) (numberOf clock (seen .marker)) (seen .requests)
+      due-at : seen .due ≡ dueOf (calm && sameBytes 21 (held .believed) next) busy (numberOf clock (seen .marker)) (seen .requests)
       unfolding sightOf
       due-at = ap (λ (l : Sight). l .due) looks ∙ rw (marker-at, requests-at)
 
@@ -272,7 +293,7 @@ module _ {first : Board} {log : List ℕ} {n : ℕ} {old : List ℕ} {kit : Kit}
       number-at = ap (λ (s : Scene). s .number) sees
 
       -- whoever is not due: all were at rest, and the believed codes stay
-      pub quiet-at : (j : ℕ) → j < 8 → askedIn (seen .due) j ≡ false → Quiet (kit .plan) scene (seen .classes) (seen .requests) (seen .due) (kept .ptcs) shown j
+      pub quiet-at : (j : ℕ) → j < 8 → askedIn (seen .due) j ≡ false → Quiet (plansIn kit) scene (seen .classes) (seen .requests) (seen .due) (kept .ptcs) shown j
       quiet-at j h e =
           let p = passes _ _ _ _ j h (rw due-at at e) in
           let w = both calm (sameBytes 21 (held .believed) next) (p .rests) in
@@ -280,31 +301,30 @@ module _ {first : Board} {log : List ℕ} {n : ℕ} {old : List ℕ} {kit : Kit}
           let stays = same-lists (held .believed) next 21 (t .here .codes .1 .long) (next-coded .long) (w .1) in
           let same : sight .classes ≡ seen .classes = t .here .votes ∙ ap (laneClasses (kit .lanes)) stays ∙ sym votes-at in
           let rests = rw same at (c .rests j h) in
-          record { rests = rests; shows = c .shows j h; stays = passed-over _ _ _ _ j _ rests (rw number-at (p .plain)) (p .silent) }
+          let code : orbitCode (plansIn kit j .at) (scene .number) ≡ 0 = rw (plan-at j h, number-at) (plain-code (now .settings) _ j (rw busy-at at (p .plain)) h) in
+          record { rests = rests; shows = c .shows j h; stays = passed-over (plansIn kit j) scene _ _ j _ rests code (p .silent) }
 
-      scene-at : wholeScene (kit .plan) (kit .rules) (kit .blocks) seen (kept .marks) clock (kept .ptcs) ≡ sceneOf now (markerIn rec)
-      unfolding sceneOf kitOf
+      scene-at : wholeScene (plansIn kit) (kit .rules) (kit .blocks) seen (kept .marks) clock (kept .ptcs) ≡ sceneOf now (markerIn rec)
+      unfolding sceneBy kitOf
       scene-at = rw (marker-at, turn-at, own-at)
 
       acts-at : (k : ℕ) → k < 8
-          → actOf (kit .plan) scene (seen .classes) (seen .requests) k (getD (kept .ptcs) k freshPtc)
-          ≡ actOf (planOf (kept .settings)) (sceneOf now (markerIn rec)) (classesIn now rec) (getD rec 2 0) k (getD (kept .ptcs) k freshPtc)
-      unfolding kitOf
+          → actOf (plansIn kit k) scene (seen .classes) (seen .requests) k (getD (kept .ptcs) k freshPtc)
+          ≡ actOf (planOf (kept .settings) k) (sceneOf now (markerIn rec)) (classesIn now rec) (getD rec 2 0) k (getD (kept .ptcs) k freshPtc)
       acts-at k h =
-          let plan : kit .plan ≡ planOf (kept .settings) = rw own-at in
-          ap (λ (s : Scene). actOf (kit .plan) s (seen .classes) (seen .requests) k (getD (kept .ptcs) k freshPtc)) sees
-          ∙ scene-seen (kit .plan) (kit .rules) (kit .blocks) seen (kept .marks) clock (kept .ptcs) k h
-          ∙ rw (scene-at, plan, classes-at, requests-at)
+          ap (λ (s : Scene). actOf (plansIn kit k) s (seen .classes) (seen .requests) k (getD (kept .ptcs) k freshPtc)) sees
+          ∙ scene-seen (plansIn kit) (kit .rules) (kit .blocks) seen (kept .marks) clock (kept .ptcs) k h
+          ∙ rw (scene-at, plan-at k h, classes-at, requests-at)
 
       -- what the loop made of the eight is what the definition makes of them
       eight-at : {A : Type 0} (g : Crossed → A) (d : A)
-          → mapI (λ k p. g (actOf (kit .plan) scene (seen .classes) (seen .requests) k p)) 0 (kept .ptcs)
-          ≡ mapI (λ k p. g (actOf (planOf (kept .settings)) (sceneOf now (markerIn rec)) (classesIn now rec) (getD rec 2 0) k p)) 0 (kept .ptcs)
+          → mapI (λ k p. g (actOf (plansIn kit k) scene (seen .classes) (seen .requests) k p)) 0 (kept .ptcs)
+          ≡ mapI (λ k p. g (actOf (planOf (kept .settings) k) (sceneOf now (markerIn rec)) (classesIn now rec) (getD rec 2 0) k p)) 0 (kept .ptcs)
       eight-at g d =
           map-is _ (kept .ptcs) freshPtc d _ (length-mapI _ 0 (kept .ptcs))
           (λ k h. ap g (acts-at k (rw (← ptcs-long) h)) ∙ sym (getD-mapI _ 0 k (kept .ptcs) freshPtc d h ∙ rw zero-add))
 
-      module _ (cur : List Ptc) (bytes shown' : List ℕ) (calm' : Bool) (a : Acted (kit .plan) scene (seen .classes) (seen .requests) (seen .due) (kept .ptcs) shown cur bytes shown' calm') where
+      module _ (cur : List Ptc) (bytes shown' : List ℕ) (calm' : Bool) (a : Acted (plansIn kit) scene (seen .classes) (seen .requests) (seen .due) (kept .ptcs) shown cur bytes shown' calm') where
         ptcs-at : cur ≡ eight ptcOf now rec
         ptcs-at = a .ptcs ∙ eight-at (λ o. o .ptc) freshPtc
 
@@ -323,7 +343,7 @@ module _ {first : Board} {log : List ℕ} {n : ℕ} {old : List ℕ} {kit : Kit}
         calm-at : (kept' : Board) → kept' .ptcs ≡ cur → calm' ≡ true → Calm (seen .classes) shown' (kept' .ptcs)
         unfolding shownOf
         calm-at kept' same z =
-            let at : (j : ℕ) → j < 8 → getD (kept' .ptcs) j freshPtc ≡ ptcOf (kit .plan) scene (seen .classes) (seen .requests) j (getD (kept .ptcs) j freshPtc) =
+            let at : (j : ℕ) → j < 8 → getD (kept' .ptcs) j freshPtc ≡ ptcOf (plansIn kit j) scene (seen .classes) (seen .requests) j (getD (kept .ptcs) j freshPtc) =
             λ j h. rw (same, a .ptcs) (getD-mapI _ 0 j (kept .ptcs) freshPtc freshPtc (rw ptcs-long h) ∙ rw zero-add) in
             record {
               rests = λ j h. rw (at j h) (a .rests z j h);
@@ -336,7 +356,7 @@ module _ {first : Board} {log : List ℕ} {n : ℕ} {old : List ℕ} {kit : Kit}
             → held' .carried ≡ codesIn rec → held' .believed ≡ next
             → row ≡ crossingRow bytes shown' → part ≡ row ++ drop 12 (take (length rows - 12 * i) (drop (12 * i) rows))
             → Stands first log n old kit (putMid (12 * i) (length rows - 12 * i) rows part) kept' after held' seen shown' calm' (i + 1)
-        unfolding stepped rowOf boardCrossed rowCrossed kitOf nextHeld
+        unfolding stepped rowOf crossedBy crossingRowBy kitOf nextHeld
         crossing-stands kept' held' carried mark after marks row part c m k x b hc hb r p =
             stands kept' after held' seen shown' calm' part
             (rw (b, kind, k, m, c, x, bytes-at, ptcs-at, turn-at, marker-at, own-at, hc, hb))

@@ -4,7 +4,7 @@ use Rattle.laws.specs.Base.{if}
 use Rattle.answer.specs.Told.{Told, told, succeeded}
 use Rattle.settings.specs.declared.Settings.{Settings}
 use Rattle.settings.specs.Check.{checked}
-use Rattle.settings.specs.Read.{standard}
+use Rattle.settings.specs.Standard.{standard}
 use Rattle.steady.specs.Held.{freshHeld}
 use Rattle.clock.specs.Clock.{freshClock}
 use Rattle.clock.specs.Turn.{freshTurn}

@@ -101,6 +101,8 @@ impl Board {
     {
         let kit = Kit::of(self.settings);
         let slots = kit.slots;
+        let plans = kit.plans;
+        let busy = kit::busy_of(self.settings);
         let mut clock = self.clock;
         let held = self.held;
         let mut carried = held.carried;
@@ -113,7 +115,7 @@ impl Board {
             if log[RECORD * i] != 0 {
                 let c = log[RECORD * i + 1] as usize;
                 let p = self.ptcs[c];
-                let o = p.command(kit.plan.waits, log[RECORD * i + 2]);
+                let o = p.command(kit.waits, log[RECORD * i + 2]);
                 let q = o.ptc;
                 self.ptcs[c] = q;
                 records::put_row(&mut rows[ROW * i..], records::command_row(o.taken));
@@ -122,7 +124,7 @@ impl Board {
                 continue;
             }
             let next = sight.next(
-                kit.plan.at,
+                &busy,
                 &kit.lanes,
                 &slots,
                 clock,
@@ -134,15 +136,18 @@ impl Board {
             );
             sight = next;
             let classes = sight.classes;
-            let h = self.ptcs[(sight.turn.holder % 8) as usize];
-            let scene = sight.scene(kit.plan, kit.rules, kit.blocks, h, &self.marks, clock);
+            let own = (sight.turn.holder % 8) as usize;
+            let h = self.ptcs[own];
+            let plan = plans[own];
+            let scene = sight.scene(plan, kit.rules, kit.blocks, h, &self.marks, clock);
             let mut bytes = [0u8; 8];
             calm = true;
             let mut k = still::next_due(sight.due, 0);
             while k < 8 {
                 let p = self.ptcs[k];
                 let asked = records::asked(sight.requests, k);
-                let o = p.crossed(kit.plan, scene, k as u32, classes[k], asked);
+                let plan = plans[k];
+                let o = p.crossed(plan, scene, k as u32, classes[k], asked);
                 let q = o.ptc;
                 bytes[k] = records::row_byte(o.code, o.sent, o.cal);
                 shown[k] = states::status(q.state);

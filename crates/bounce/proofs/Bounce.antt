@@ -19,8 +19,8 @@ use Rattle.steady.proofs.Laws.{twice, once}
 use Rattle.records.specs.Records.{recAt, isCrossing, codesIn}
 use Rattle.records.specs.Refusal.{recordsIn}
 use Rattle.board.specs.declared.Board.{Board}
-use Rattle.board.specs.Crossing.{turnIn, sceneOf, boardCrossed, rowCrossed}
-use Rattle.board.specs.Command.{commandIn, boardCommanded, rowCommanded}
+use Rattle.board.specs.Crossing.{turnBy, sceneBy, boardCrossed, crossedBy, rowCrossed, crossingRowBy}
+use Rattle.board.specs.Command.{commandBy, boardCommanded, commandedBy, rowCommanded, commandRowBy}
 use Rattle.board.specs.Run.{stepped, rowOf, ran, rowsOf}
 use Rattle.board.specs.Fresh.{freshBoard}
 use Rattle.logbook.specs.Whole.{Taken, Crossing, whole}
@@ -120,19 +120,19 @@ fresh-beside s = refl
 module _ (b : Board) (c ra rb : List ℕ) (heads : (n : ℕ) → n < 3 → getD ra n 0 ≡ getD rb n 0) where
   module _ (e : believedOf c (b .held .believed) (codesIn ra) ≡ believedOf (b .held .carried) (b .held .believed) (codesIn rb)) where
     crossed : boardCrossed (carrying b c) ra ≡ carrying (boardCrossed b rb) (boardCrossed (carrying b c) ra .held .carried)
-    unfolding boardCrossed sceneOf turnIn nextHeld
+    unfolding crossedBy sceneBy turnBy nextHeld
     crossed = rw (heads 1 (omega arith), heads 2 (omega arith), e)
 
     crossed-row : rowCrossed (carrying b c) ra ≡ rowCrossed b rb
-    unfolding rowCrossed sceneOf turnIn nextHeld
+    unfolding crossingRowBy sceneBy turnBy nextHeld
     crossed-row = rw (heads 1 (omega arith), heads 2 (omega arith), e)
 
   commanded : boardCommanded (carrying b c) ra ≡ carrying (boardCommanded b rb) (boardCommanded (carrying b c) ra .held .carried)
-  unfolding boardCommanded commandIn
+  unfolding commandedBy commandBy
   commanded = rw (heads 1 (omega arith), heads 2 (omega arith))
 
   commanded-row : rowCommanded (carrying b c) ra ≡ rowCommanded b rb
-  unfolding rowCommanded commandIn
+  unfolding commandRowBy commandBy
   commanded-row = rw (heads 1 (omega arith), heads 2 (omega arith))
 
 -- where the codes believed after it are the same, so are the row and all else
@@ -142,7 +142,7 @@ module _ (a b : Board) (c ra rb : List ℕ) (before : a ≡ carrying b c) (heads
   kind = ap (λ (n : ℕ). eqb n 0) (heads 0 (omega arith))
 
   believed-now : isCrossing rb ≡ true → believedOf c (b .held .believed) (codesIn ra) ≡ believedOf (b .held .carried) (b .held .believed) (codesIn rb)
-  unfolding stepped boardCrossed nextHeld
+  unfolding stepped crossedBy nextHeld
   believed-now e = rw (before, kind, e) at same
 
   next : stepped a ra ≡ carrying (stepped b rb) (stepped a ra .held .carried)

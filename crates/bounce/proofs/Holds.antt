@@ -20,8 +20,8 @@ use Rattle.records.specs.Records.{recAt, isCrossing, codesIn, well}
 use Rattle.records.specs.Refusal.{recordsIn}
 use Rattle.records.proofs.Laws.{gtfe-low}
 use Rattle.board.specs.declared.Board.{Board}
-use Rattle.board.specs.Crossing.{boardCrossed}
-use Rattle.board.specs.Command.{boardCommanded}
+use Rattle.board.specs.Crossing.{crossedBy}
+use Rattle.board.specs.Command.{commandedBy}
 use Rattle.board.specs.Run.{stepped, ran}
 use Rattle.board.specs.Fresh.{freshBoard}
 use Rattle.board.proofs.Settled.{sound-parts}
@@ -72,7 +72,7 @@ module _ (log : List ℕ) (i : ℕ) (b : Board) (sound : soundHeld (b .held) ≡
   told-command e = record { long = g .long; carried = λ y l. rw e (g .carried y l); believed = λ y l. rw e (g .believed y l) }
 
   told-next : Telling log (suc i) (stepped b rec .held)
-  unfolding stepped boardCrossed boardCommanded
+  unfolding stepped crossedBy commandedBy
   told-next =
       ⊎-elim
       (λ (e : isCrossing rec ≡ true). rw e (told-crossing e))

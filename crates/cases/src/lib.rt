@@ -28,7 +28,10 @@ pub fn say_answer(before: &[u8], a: Answer) {
         Answer::Done => {}
         Answer::Text(line) => say_carried(line),
         Answer::Range(line) => say_carried(line),
-        Answer::Relation(which) => say_carried(which),
+        Answer::Relation(which, k) => {
+            say_carried(which);
+            say_number(b" ", k as u64);
+        }
         Answer::Board => {}
         Answer::Length => {}
         Answer::Room(needed) => say_carried(needed),

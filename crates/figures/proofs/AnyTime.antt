@@ -10,7 +10,7 @@ use lib.ListN.{length, replicate}
 use Rattle.laws.specs.Base.{if, one}
 use Rattle.laws.proofs.Bools.{one-le}
 use Rattle.settings.specs.Names.{rulesOf, warnBlocksOf}
-use Rattle.settings.specs.Read.{standard}
+use Rattle.settings.specs.Standard.{standard}
 use Rattle.throttle.specs.Marks.{passed}
 use Rattle.throttle.specs.Rules.{free}
 use Rattle.throttle.specs.Windows.{Tells, freeAfter}

@@ -11,7 +11,7 @@ use Rattle.laws.specs.Base.{highest}
 use Rattle.laws.proofs.Over.{getD-tabulate}
 use Rattle.status.specs.Class.{none, classOf, counted}
 use Rattle.status.specs.Codes.{codeAt}
-use Rattle.status.specs.Merge.{member, vote, merged, classes}
+use Rattle.status.specs.Merge.{memberBy, voteBy, merged, mergedBy, classes, classesBy}
 use Rattle.throttle.proofs.Windows.{none-told}
 use Rattle.states.specs.Names.{READY, WARN}
 use Rattle.runup.proofs.Walk.{steadyUnder, Follows, walk-same, walked-same}
@@ -22,7 +22,7 @@ use Rattle.figures.proofs.AnyTime.{sendsAfter, any-time}
 
 -- where the classes of all eight are none, that of each is
 each-none : (codes : List ℕ) → classes ignoring codes ≡ replicate 8 none → (k : ℕ) → k < 8 → merged ignoring codes k ≡ none
-unfolding classes
+unfolding classesBy
 each-none codes e k h =
     let here : getD (classes ignoring codes) k none ≡ merged ignoring codes k = getD-tabulate (merged ignoring codes) 0 8 k none h ∙ rw zero-add in
     sym here ∙ rw e (getD-replicate 8 k none none h)
@@ -32,7 +32,7 @@ unmarked : (number state : ℕ) → Follows (boardAt number state) (steadyUnder 
 unmarked number state = record { std = refl; carried = refl; believed = refl; long = refl; told = none-told number }
 
 pub figures : Figures
-unfolding opened sendsAfter highest classOf counted codeAt member vote merged classes
+unfolding opened sendsAfter highest classOf counted codeAt memberBy voteBy mergedBy classesBy
 figures = record {
   ready = λ t. any-time t (λ k. false);
   warning = λ t. any-time t (λ k. true);

@@ -8,7 +8,7 @@ use lib.ListN.{getD, set, replicate}
 use Rattle.laws.specs.Base.{if, one}
 use Rattle.settings.specs.declared.Settings.{Settings}
 use Rattle.settings.specs.Names.{rulesOf, warnBlocksOf}
-use Rattle.settings.specs.Read.{standard}
+use Rattle.settings.specs.Standard.{standard}
 use Rattle.status.specs.Class.{none, busy, bad, classOf}
 use Rattle.status.specs.Merge.{merged}
 use Rattle.throttle.specs.Marks.{passed}

@@ -1,3 +1,4 @@
 mod Places
 pub mod Parts
+pub mod Lines
 pub mod Writing

@@ -1,15 +1,15 @@
 -- Lines of the keys from a place of the table on: a loop lays one line or adds up its length, and at the end nothing is left.
 -- The walks over any keys, at these; which keys stand at the places of the settings and of the report is computed from the table.
-use mathlib.Core.Path.{_≡_, refl, sym}
+use mathlib.Core.Path.{_≡_, refl, ap, _∙_}
 use mathlib.Core.List.{List, [], _++_}
 use Prim.Native.Nat.{ℕ, _+_, _≤_, _<_}
 use native.Mathlib.Omega.{arith}
-use lib.ListN.{length, drop, getD, length-drop, List·getD-append}
+use lib.ListN.{length, drop, getD, length-drop}
 use lib.Seq.{getD-drop}
 use Rattle.text.specs.Bytes.{put}
 use Rattle.text.specs.Lines.{keysOf, lineHead, lineText, linesText}
 use Rattle.text.proofs.Walk.{length-more, put-more, text-end, text-within}
-use Rattle.keys.specs.Settings.{table}
+use Rattle.keys.specs.Settings.{newest, tableOf}
 use Rattle.keys.specs.Report.{commonKeys, blockKeys}
 use Rattle.keys.specs.Keys.{keys, keyAt, keyCount, commonFirst, blockFirst}
 use Rattle.keys.proofs.Parts.{key-count}
@@ -41,17 +41,18 @@ left-none first vs n = text-end (drop first keys) vs n
 
 -- ---- which keys these are
 
-pub settings-count : length (keysOf table) ≡ 71
-unfolding table
-settings-count = refl
+-- the newest edition's are the first
+apart : keys ≡ keysOf (tableOf newest) ++ drop 149 keys
+unfolding keys tableOf
+apart = refl
 
-pub settings-key : (n : ℕ) → n < 71 → getD (keysOf table) n [] ≡ keyAt n
-unfolding keyAt keys
-settings-key n h = sym (List·getD-append (keysOf table) (commonKeys ++ blockKeys) [] n (omega (arith, settings-count)))
+newest-count : length (keysOf (tableOf newest)) ≡ 149
+unfolding tableOf
+newest-count = refl
 
-pub settings-text : (vs : List ℕ) → length vs ≤ 71 → linesText keys vs ≡ linesText (keysOf table) vs
-unfolding keys
-settings-text vs h = text-within (keysOf table) (commonKeys ++ blockKeys) vs (omega (arith, settings-count))
+pub newest-text : (vs : List ℕ) → length vs ≤ 149 → linesText keys vs ≡ linesText (keysOf (tableOf newest)) vs
+newest-text vs h =
+    ap (λ (ks : List (List ℕ)). linesText ks vs) apart ∙ text-within (keysOf (tableOf newest)) (drop 149 keys) vs (omega (arith, newest-count))
 
 pub common-text : (vs : List ℕ) → length vs ≤ 4 → linesText (drop commonFirst keys) vs ≡ linesText commonKeys vs
 unfolding keys

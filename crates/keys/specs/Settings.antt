@@ -1,7 +1,10 @@
--- Document 01, "Settings text": the 71 lines in their order, each with its key, its range and its standard value.
+-- Documents 01, "Settings text", and 02, P2: the lines of the settings text, edition by edition, each with its key, its range and its
+-- standard value.
 use Prim.Native.Nat.{ℕ, zero, suc}
 use Prim.Native.String.{String}
 use mathlib.Core.List.{List, [], _∷_, _++_, map}
+use lib.Dec.{eqb}
+use Rattle.laws.specs.Base.{if}
 use Rattle.text.specs.Bytes.{bytes}
 use Rattle.text.specs.Decimal.{decimal, decimalOf}
 use Rattle.text.specs.Lines.{Entry}
@@ -25,9 +28,12 @@ numbered name zero from low high standard = []
 numbered name (suc count) from low high standard =
     keyed (bytes name ++ decimal from) low high standard ∷ numbered name count (suc from) low high standard
 
-unfoldable pub settings : List Setting
+-- ---- the parts that the editions are made of
+
+-- document 01's lines 1 to 28
+unfoldable pub general : List Setting
 unfolding setting numbered
-settings =
+general =
     setting "orbit" 64 4096 3564
     ∷ setting "gap_low" 0 4095 3444
     ∷ setting "gap_high" 0 4095 3563
@@ -48,21 +54,60 @@ settings =
     ∷ setting "settle_hard" 0 255 12
     ∷ setting "recover_resync" 0 255 1
     ∷ setting "recover_hard" 0 255 1
-    ∷ (numbered "slot" 1 0 0 255 255 ++ (numbered "slot" 7 1 0 255 0
-    ++ (setting "at_bc0" 0 4095 0
-    ∷ setting "at_te" 0 4095 3400
-    ∷ setting "at_resync" 0 4095 100
-    ∷ setting "at_hard" 0 4095 200
-    ∷ setting "at_ec0" 0 4095 300
-    ∷ setting "at_oc0" 0 4095 400
-    ∷ setting "at_start" 0 4095 500
-    ∷ setting "at_stop" 0 4095 600
-    ∷ setting "at_gap" 0 4095 3444
-    ∷ setting "at_wte" 0 4095 3000
-    ∷ setting "at_cal" 0 4095 3490
-    ∷ numbered "part" 32 0 0 8 0)))
+    ∷ (numbered "slot" 1 0 0 255 255 ++ numbered "slot" 7 1 0 255 0)
 
--- the same lines as a table to read and write by
-unfoldable pub table : List Entry
+-- the eleven lines of a schedule, `name` before each
+unfoldable pub schedule : List ℕ → List Setting
+unfolding bytes
+schedule name =
+    keyed (name ++ bytes "bc0") 0 4095 0
+    ∷ keyed (name ++ bytes "te") 0 4095 3400
+    ∷ keyed (name ++ bytes "resync") 0 4095 100
+    ∷ keyed (name ++ bytes "hard") 0 4095 200
+    ∷ keyed (name ++ bytes "ec0") 0 4095 300
+    ∷ keyed (name ++ bytes "oc0") 0 4095 400
+    ∷ keyed (name ++ bytes "start") 0 4095 500
+    ∷ keyed (name ++ bytes "stop") 0 4095 600
+    ∷ keyed (name ++ bytes "gap") 0 4095 3444
+    ∷ keyed (name ++ bytes "wte") 0 4095 3000
+    ∷ keyed (name ++ bytes "cal") 0 4095 3490
+    ∷ []
+
+-- the schedules of `count` controllers, counted from k: `at0_bc0` and so on
+unfoldable pub schedules : (count k : ℕ) → List Setting
+unfolding bytes decimal decimalOf schedule
+schedules zero k = []
+schedules (suc count) k = schedule (bytes "at" ++ (decimal k ++ bytes "_")) ++ schedules count (suc k)
+
+unfoldable pub parts : List Setting
+unfolding numbered
+parts = numbered "part" 32 0 0 8 0
+
+abbrev pub linesOf : List Setting → List Entry
+linesOf = map (λ (s : Setting). s .line)
+
+-- ---- the editions
+
+-- the newest that the desk knows, which is the one that it writes
+abbrev pub newest : ℕ
+newest = 2
+
+-- document 02, P2: the first line of every edition but the first
+unfoldable pub opening : Entry
+unfolding bytes
+opening = record { key = bytes "edition"; range = record { low = 2; high = newest; digits = 5 } }
+
+-- the values of the settings, in the order of the newest edition
+unfoldable pub settings : List Setting
+unfolding general schedules parts
+settings = general ++ (schedules 8 0 ++ parts)
+
+-- their lines, which follow the first one
+unfoldable pub valueLines : List Entry
 unfolding settings
-table = map (λ (s : Setting). s .line) settings
+valueLines = linesOf settings
+
+-- edition 1 is document 01's, with one schedule, `at_bc0` and so on; edition 2 has eight
+unfoldable pub tableOf : ℕ → List Entry
+unfolding bytes general schedule parts opening valueLines
+tableOf e = if (eqb e 1) (linesOf (general ++ (schedule (bytes "at_") ++ parts))) (opening ∷ valueLines)

@@ -1,118 +1,221 @@
 // The one table of fixed byte strings: every key of the settings text and of the report, each with its `=`, lent in parts to readers and writers.
+mod ranges;
+
+pub use ranges::high_values;
+pub use ranges::low_values;
+pub use ranges::range;
 ghost use mathlib.Core.Path.{_≡_};
 ghost use Prim.Native.Nat.{_+_, _*_, _<_, _≤_};
 ghost use lib.ListN.{length, drop};
-ghost use Rattle.text.specs.Bytes.{put};
+ghost use Rattle.text.specs.Bytes.{put, starts};
 ghost use Rattle.text.specs.Lines.{lineHead, lineText, linesText};
 ghost use Rattle.text.specs.support.Seen.{LineIs};
 ghost use Rattle.keys.specs.Keys.{keys, keyAt, keyCount, lineMost};
 ghost use Rattle.keys.specs.support.Places.{startOf};
 ghost use Rattle.keys.specs.support.Spans.{SpanIs};
 
-const KEYS: [u8; 697] = *b"orbit=gap_low=gap_high=\
+const KEYS: [u8; 1457] = *b"edition=\
+    orbit=gap_low=gap_high=\
     r1_gap=r2_period=r2_norm=r2_low=r3_period=r3_norm=r3_low=r4_period=r4_norm=r4_low=\
     warn_blocks=ignore_disc=ignore_bad=settle_resync=settle_hard=recover_resync=recover_hard=\
     slot0=slot1=slot2=slot3=slot4=slot5=slot6=slot7=\
-    at_bc0=at_te=at_resync=at_hard=at_ec0=at_oc0=at_start=at_stop=at_gap=at_wte=at_cal=\
+    at0_bc0=at0_te=at0_resync=at0_hard=at0_ec0=at0_oc0=at0_start=at0_stop=at0_gap=at0_wte=at0_cal=\
+    at1_bc0=at1_te=at1_resync=at1_hard=at1_ec0=at1_oc0=at1_start=at1_stop=at1_gap=at1_wte=at1_cal=\
+    at2_bc0=at2_te=at2_resync=at2_hard=at2_ec0=at2_oc0=at2_start=at2_stop=at2_gap=at2_wte=at2_cal=\
+    at3_bc0=at3_te=at3_resync=at3_hard=at3_ec0=at3_oc0=at3_start=at3_stop=at3_gap=at3_wte=at3_cal=\
+    at4_bc0=at4_te=at4_resync=at4_hard=at4_ec0=at4_oc0=at4_start=at4_stop=at4_gap=at4_wte=at4_cal=\
+    at5_bc0=at5_te=at5_resync=at5_hard=at5_ec0=at5_oc0=at5_start=at5_stop=at5_gap=at5_wte=at5_cal=\
+    at6_bc0=at6_te=at6_resync=at6_hard=at6_ec0=at6_oc0=at6_start=at6_stop=at6_gap=at6_wte=at6_cal=\
+    at7_bc0=at7_te=at7_resync=at7_hard=at7_ec0=at7_oc0=at7_start=at7_stop=at7_gap=at7_wte=at7_cal=\
     part0=part1=part2=part3=part4=part5=part6=part7=part8=part9=\
     part10=part11=part12=part13=part14=part15=part16=part17=part18=part19=\
     part20=part21=part22=part23=part24=part25=part26=part27=part28=part29=\
     part30=part31=\
+    at_bc0=at_te=at_resync=at_hard=at_ec0=at_oc0=at_start=at_stop=at_gap=at_wte=at_cal=\
     crossings=orbit=bc_errors=holder=\
     ptc=state=requested=accepted=lost_state=lost_slot=lost_gap=lost_cal=lost_throttle=\
     cal_requested=cal_accepted=cal_lost=events=";
 
 // Where each key begins, and where the last ends.
-const STARTS: [usize; 89] = [
+const STARTS: [usize; 178] = [
     0,
-    6,
+    8,
     14,
-    23,
-    30,
-    40,
+    22,
+    31,
+    38,
     48,
-    55,
-    65,
+    56,
+    63,
     73,
-    80,
-    90,
+    81,
+    88,
     98,
-    105,
-    117,
-    129,
-    140,
-    154,
-    166,
-    181,
-    194,
-    200,
-    206,
-    212,
-    218,
-    224,
-    230,
-    236,
-    242,
-    249,
-    255,
+    106,
+    113,
+    125,
+    137,
+    148,
+    162,
+    174,
+    189,
+    202,
+    208,
+    214,
+    220,
+    226,
+    232,
+    238,
+    244,
+    250,
+    258,
     265,
-    273,
-    280,
-    287,
-    296,
-    304,
+    276,
+    285,
+    293,
+    301,
     311,
-    318,
-    325,
-    331,
-    337,
-    343,
-    349,
-    355,
-    361,
-    367,
-    373,
+    320,
+    328,
+    336,
+    344,
+    352,
+    359,
+    370,
     379,
-    385,
-    392,
-    399,
-    406,
-    413,
-    420,
-    427,
-    434,
-    441,
-    448,
-    455,
-    462,
-    469,
-    476,
-    483,
-    490,
-    497,
-    504,
-    511,
-    518,
-    525,
+    387,
+    395,
+    405,
+    414,
+    422,
+    430,
+    438,
+    446,
+    453,
+    464,
+    473,
+    481,
+    489,
+    499,
+    508,
+    516,
+    524,
     532,
-    539,
-    549,
-    555,
-    565,
-    572,
-    576,
-    582,
-    592,
-    601,
-    612,
-    622,
-    631,
-    640,
-    654,
-    668,
-    681,
-    690,
-    697,
+    540,
+    547,
+    558,
+    567,
+    575,
+    583,
+    593,
+    602,
+    610,
+    618,
+    626,
+    634,
+    641,
+    652,
+    661,
+    669,
+    677,
+    687,
+    696,
+    704,
+    712,
+    720,
+    728,
+    735,
+    746,
+    755,
+    763,
+    771,
+    781,
+    790,
+    798,
+    806,
+    814,
+    822,
+    829,
+    840,
+    849,
+    857,
+    865,
+    875,
+    884,
+    892,
+    900,
+    908,
+    916,
+    923,
+    934,
+    943,
+    951,
+    959,
+    969,
+    978,
+    986,
+    994,
+    1002,
+    1008,
+    1014,
+    1020,
+    1026,
+    1032,
+    1038,
+    1044,
+    1050,
+    1056,
+    1062,
+    1069,
+    1076,
+    1083,
+    1090,
+    1097,
+    1104,
+    1111,
+    1118,
+    1125,
+    1132,
+    1139,
+    1146,
+    1153,
+    1160,
+    1167,
+    1174,
+    1181,
+    1188,
+    1195,
+    1202,
+    1209,
+    1216,
+    1223,
+    1229,
+    1239,
+    1247,
+    1254,
+    1261,
+    1270,
+    1278,
+    1285,
+    1292,
+    1299,
+    1309,
+    1315,
+    1325,
+    1332,
+    1336,
+    1342,
+    1352,
+    1361,
+    1372,
+    1382,
+    1391,
+    1400,
+    1414,
+    1428,
+    1441,
+    1450,
+    1457,
 ];
 
 // The part of `KEYS` that is one key with its `=`.
@@ -136,6 +239,17 @@ fn span_of(n: usize) -> Span
         start: start(n),
         end: start(n + 1),
     }
+}
+
+// Whether the text begins with key n and its `=`.
+pub fn begins(text: &[u8], n: usize) -> bool
+    requires { ⌜ n < keyCount ⌝ }
+    ensures { λ r. ⌜ r ≡ starts (lineHead (keyAt n)) (now (text .entry)) ⌝ }
+{
+    let key = span_of(n);
+    let a = key.start;
+    let e = key.end;
+    text::starts_with(text, 0, &KEYS[a..e])
 }
 
 // Reads the line of key n at a place of the text.

@@ -1,4 +1,4 @@
--- What of the settings a crossing goes by: the eight slots, and a controller's plan.
+-- What of the settings a crossing goes by: the eight slots, and each controller's plan.
 use Prim.Native.Nat.{ℕ}
 use mathlib.Core.List.{List}
 use Rattle.laws.specs.Base.{tabulate}
@@ -9,5 +9,6 @@ use Rattle.ptc.specs.declared.Plan.{Plan}
 abbrev pub slotsOf : Settings → List ℕ
 slotsOf s = tabulate (slotOf s) 0 8
 
-abbrev pub planOf : Settings → Plan
-planOf s = record { at = scheduleOf s; waits = waitsOf s; gap = gapOf s }
+-- document 02, P2: controller k goes by its own schedule
+abbrev pub planOf : Settings → ℕ → Plan
+planOf s k = record { at = scheduleOf s k; waits = waitsOf s; gap = gapOf s }

@@ -1,2 +1,3 @@
 pub mod Kit
+pub mod View
 pub mod support

@@ -15,7 +15,7 @@ use Rattle.settings.specs.declared.Settings.{Settings}
 use Rattle.settings.specs.Names.{ignoresOf}
 use Rattle.status.specs.Class.{classOf, counted}
 use Rattle.status.specs.Codes.{codeAt, Coded}
-use Rattle.status.specs.Merge.{member, vote, merged, classes}
+use Rattle.status.specs.Merge.{memberBy, vote, voteBy, merged, mergedBy, classes, classesBy}
 use Rattle.status.specs.support.Merger.{mergerOf}
 use Rattle.status.proofs.Codes.{code-low, even-code, odd-code}
 use Rattle.status.proofs.Laws.{ranked, owned, counted-low}
@@ -42,7 +42,7 @@ module _ (s : Settings) where
 module _ (s : Settings) (codes : List ℕ) (good : Coded codes) (k : ℕ) (inside : k < 8) where
   -- an input below 40 votes for its owner, the GTFE code for all
   entry-class : (i : ℕ) → i < 40 → classIn (getD (tableOf (mergerOf s)) (16 * i + codeAt codes i) 0) k ≡ vote s codes k i
-  unfolding entryOf vote
+  unfolding entryOf voteBy
   entry-class i l =
       let c = codeAt codes i in
       let h = code-low codes good i in
@@ -52,7 +52,7 @@ module _ (s : Settings) (codes : List ℕ) (good : Coded codes) (k : ℕ) (insid
       (class-in-lane (counted (ignoresOf s) (classOf i c)) k (omega (arith, counted-low (ignoresOf s) i c)) inside (getD (mergerOf s .owners) i 0))
 
   gtfe-class : classIn (lanesOf (tableOf (mergerOf s)) codes 0) k ≡ vote s codes k 40
-  unfolding lanesOf entryOf vote member codeAt
+  unfolding lanesOf entryOf voteBy memberBy codeAt
   gtfe-class =
       let c = codeAt codes 40 in
       let h = good .gtfe in
@@ -81,11 +81,11 @@ module _ (s : Settings) (codes : List ℕ) (good : Coded codes) (k : ℕ) (insid
       class-or (lanesOf t codes j) (pairOf t codes j) k ∙ rw (collected j (omega arith), pair-class j l, e, ← add-one (j + j)) (omega arith)
 
   lane-class : classIn (lanesOf (tableOf (mergerOf s)) codes 20) k ≡ merged s codes k
-  unfolding merged highest
+  unfolding mergedBy highest
   lane-class = collected 20 (omega arith) ∙ max-comm (vote s codes k 40) (highest (vote s codes k) 40)
 
 pub lane-classes : (s : Settings) (codes : List ℕ) → Coded codes → laneClasses (tableOf (mergerOf s)) codes ≡ classes s codes
-unfolding laneClasses classes
+unfolding laneClasses classesBy
 lane-classes s codes good =
     let lane = classIn (lanesOf (tableOf (mergerOf s)) codes 20) in
     ext-getD 0 (tabulate lane 0 8) (tabulate (merged s codes) 0 8)

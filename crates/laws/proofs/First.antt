@@ -2,12 +2,12 @@
 -- The loop's invariant is `firstNot p n 0 ≡ firstNot p (n - k) k`; each law opens one place of what is left.
 use mathlib.Core.Path.{_≡_, sym, _∙_}
 use mathlib.Core.Bool.{Bool, true, false}
-use Prim.Native.Nat.{ℕ, zero, suc, _+_, _-_, _<_}
+use Prim.Native.Nat.{ℕ, zero, suc, _+_, _-_, _≤_, _<_}
 use native.Mathlib.Nat.{sub-self, sub-zero, add-zero, add-suc, suc-add, le-of-suc-le-suc, not-suc-le-zero}
 use native.Mathlib.Numerals.{add-one}
 use native.Mathlib.Omega.{arith}
 use Rattle.laws.specs.Base.{firstNot}
-use Rattle.laws.proofs.Bools.{if-yes}
+use Rattle.laws.proofs.Bools.{if-yes, if-most}
 
 module _ (p : ℕ → Bool) (n : ℕ) where
   pub first-start : firstNot p n 0 ≡ firstNot p (n - 0) 0
@@ -43,3 +43,9 @@ first-none p (suc n) k w =
     let more : suc k + n ≡ k + suc n = omega arith in
     let later : (i : ℕ) → i < n → p (suc k + i) ≡ true = λ i h. let e : suc k + i ≡ k + suc i = omega arith in rw e (w (suc i) (omega arith)) in
     rw here (first-none p n (suc k) later ∙ more)
+
+-- it lies among the places, or just past them
+pub first-most : (p : ℕ → Bool) (n k : ℕ) → firstNot p n k ≤ k + n
+unfolding firstNot
+first-most p zero k = omega arith
+first-most p (suc n) k = if-most (p k) (firstNot p n (suc k)) k (k + suc n) (omega (arith, first-most p n (suc k))) (omega arith)

@@ -11,9 +11,9 @@ use Rattle.clock.specs.declared.Turn.{Turn}
 use Rattle.clock.specs.Clock.{tickedOf}
 use Rattle.records.specs.Records.{recAt, isCrossing, markerIn}
 use Rattle.board.specs.declared.Board.{Board}
-use Rattle.board.specs.Crossing.{turnIn, sceneOf, boardCrossed}
+use Rattle.board.specs.Crossing.{turnIn, turnBy, sceneOf, sceneBy, boardCrossed, crossedBy}
 use Rattle.eight.specs.Eight.{clockOf}
-use Rattle.board.specs.Command.{boardCommanded}
+use Rattle.board.specs.Command.{boardCommanded, commandedBy}
 use Rattle.board.specs.Run.{stepped, ran}
 use Rattle.board.specs.Fresh.{freshBoard}
 use Rattle.board.proofs.Keeps.{ran-settings}
@@ -28,11 +28,11 @@ pub record Along (a : Beam) (b : Board) : Type 0 where
 module _ (s : Settings) (a : Beam) (b : Board) (rec : List ℕ) (own : b .settings ≡ s) (g : Along a b) where
   -- the slot in this crossing
   handed-over : turnIn b (markerIn rec) ≡ handedOver s a rec
-  unfolding turnIn
+  unfolding turnBy
   handed-over = rw (own, g .next, g .crossings, g .turn)
 
   past-crossing : isCrossing rec ≡ true → Along (beamPast s a rec) (boardCrossed b rec)
-  unfolding beamPast boardCrossed clockOf tickedOf
+  unfolding beamPast crossedBy clockOf tickedOf
   past-crossing e =
       record {
         crossings = rw (e, g .crossings);
@@ -42,7 +42,7 @@ module _ (s : Settings) (a : Beam) (b : Board) (rec : List ℕ) (own : b .settin
       }
 
   past-command : isCrossing rec ≡ false → Along (beamPast s a rec) (boardCommanded b rec)
-  unfolding beamPast boardCommanded
+  unfolding beamPast commandedBy
   past-command e = record { crossings = rw (e, g .crossings); next = rw (e, g .next); errors = rw (e, g .errors); turn = rw (e, g .turn) }
 
   past : Along (beamPast s a rec) (stepped b rec)
@@ -69,11 +69,11 @@ module _ (s : Settings) (log : List ℕ) where
   -- the crossing's number and holder, as all eight see them
   module _ (i : ℕ) where
     pub number-told : sceneOf (ran i (freshBoard s) log) (markerIn (recAt log i)) .number ≡ numberIn s log i
-    unfolding sceneOf numberIn
+    unfolding sceneBy numberIn
     number-told = rw (along i .next)
 
     pub holder-told : sceneOf (ran i (freshBoard s) log) (markerIn (recAt log i)) .holder ≡ holderIn s log i
-    unfolding sceneOf holderIn
+    unfolding sceneBy holderIn
     holder-told =
         ap (λ (t : Turn). t .holder)
         (handed-over s (beamAt s log i) (ran i (freshBoard s) log) (recAt log i) (own-settings i) (along i))

@@ -24,7 +24,7 @@ use Rattle.records.specs.Rows.{rowByte}
 use Rattle.records.proofs.Laws.{byte-code, byte-fires}
 use Rattle.board.specs.declared.Board.{Board}
 use Rattle.kit.specs.Kit.{planOf}
-use Rattle.board.specs.Crossing.{sceneOf, classesIn, eight, boardCrossed, rowCrossed}
+use Rattle.board.specs.Crossing.{sceneOf, classesIn, eight, boardCrossed, crossedBy, rowCrossed, crossingRowBy}
 use Rattle.eight.specs.Eight.{actOf, byteOf, shownOf}
 use Rattle.ptc.specs.Fresh.{freshPtc}
 use Rattle.board.specs.Run.{stepped, rowOf, ran}
@@ -40,7 +40,7 @@ use Rattle.logbook.proofs.Beams.{own-settings}
 -- controller k through it
 abbrev crossedAt : Board → List ℕ → ℕ → Crossed
 crossedAt b rec k =
-    crossedOf (planOf (b .settings)) (sceneOf b (markerIn rec)) k (getD (classesIn b rec) k 0) (askedIn (getD rec 2 0) k)
+    crossedOf (planOf (b .settings) k) (sceneOf b (markerIn rec)) k (getD (classesIn b rec) k 0) (askedIn (getD rec 2 0) k)
     (getD (b .ptcs) k freshPtc)
 
 module _ (b : Board) (rec : List ℕ) (long : length (b .ptcs) ≡ 8) where
@@ -52,7 +52,7 @@ module _ (b : Board) (rec : List ℕ) (long : length (b .ptcs) ≡ 8) where
 
   module _ (k : ℕ) (low : k < 8) where
     byte-told : getD (rowCrossed b rec) k 0 ≡ rowByte (crossedAt b rec k .code) (crossedAt b rec k .sent) (crossedAt b rec k .cal)
-    unfolding rowCrossed byteOf actOf
+    unfolding crossingRowBy byteOf actOf
     byte-told =
         row-byte (eight byteOf b rec) (eight shownOf b rec) bytes-long k low
         ∙ getD-mapI _ 0 k (b .ptcs) freshPtc 0 (rw long low)
@@ -61,7 +61,7 @@ module _ (b : Board) (rec : List ℕ) (long : length (b .ptcs) ≡ 8) where
     fits : crossedAt b rec k .code < 16
     fits =
         let class = getD (classesIn b rec) k 0 in
-        omega (arith, code-fits (planOf (b .settings)) (sceneOf b (markerIn rec)) k class (askedIn (getD rec 2 0) k) (getD (b .ptcs) k freshPtc))
+        omega (arith, code-fits (planOf (b .settings) k) (sceneOf b (markerIn rec)) k class (askedIn (getD rec 2 0) k) (getD (b .ptcs) k freshPtc))
 
     code-seen : codeIn (rowCrossed b rec) k ≡ crossedAt b rec k .code
     code-seen = rw byte-told (byte-code (crossedAt b rec k .code) (crossedAt b rec k .sent) (crossedAt b rec k .cal) fits)
@@ -74,7 +74,7 @@ module _ (b : Board) (rec : List ℕ) (long : length (b .ptcs) ≡ 8) where
 
     -- a byte below 16 has no trigger in it
     fires-seen : ltb (getD (eight byteOf b rec) k 0) 16 ≡ not (crossedAt b rec k .sent || crossedAt b rec k .cal)
-    unfolding rowCrossed
+    unfolding crossingRowBy
     fires-seen =
         ap (λ (x : ℕ). ltb x 16) (sym (row-byte (eight byteOf b rec) (eight shownOf b rec) bytes-long k low) ∙ byte-told)
         ∙ byte-fires (crossedAt b rec k .code) (crossedAt b rec k .sent) (crossedAt b rec k .cal) fits
@@ -84,7 +84,7 @@ module _ (b : Board) (rec : List ℕ) (long : length (b .ptcs) ≡ 8) where
     shown-told = getD-mapI _ 0 k (b .ptcs) freshPtc 0 (rw long low) ∙ rw zero-add
 
     ptc-seen : getD (boardCrossed b rec .ptcs) k freshPtc ≡ crossedAt b rec k .ptc
-    unfolding boardCrossed actOf
+    unfolding crossedBy actOf
     ptc-seen = getD-mapI _ 0 k (b .ptcs) freshPtc freshPtc (rw long low) ∙ rw zero-add
 
   shown-low : (j : ℕ) → getD (eight shownOf b rec) j 0 < 16
@@ -97,7 +97,7 @@ module _ (b : Board) (rec : List ℕ) (long : length (b .ptcs) ≡ 8) where
       (lt-or-ge j 8)
 
   status-seen : (k : ℕ) → k < 8 → statusIn (rowCrossed b rec) k ≡ statusOf (crossedAt b rec k .ptc .state)
-  unfolding rowCrossed
+  unfolding crossingRowBy
   status-seen k low = row-status (eight byteOf b rec) (eight shownOf b rec) bytes-long shown-long shown-low k low ∙ shown-told k low
 
 -- ---- a crossing of a log that was accepted
@@ -114,7 +114,7 @@ classIn s log i k = getD (classesIn (ran i (freshBoard s) log) (recAt log i)) k 
 
 abbrev pub crossedIn : Settings → List ℕ → ℕ → ℕ → Crossed
 crossedIn s log i k =
-    crossedOf (planOf s) (sceneIn s log i) k (classIn s log i k) (askedIn (getD (recAt log i) 2 0) k) (ptcIn s log i k)
+    crossedOf (planOf s k) (sceneIn s log i) k (classIn s log i k) (askedIn (getD (recAt log i) 2 0) k) (ptcIn s log i k)
 
 module _ {s : Settings} {log buffer : List ℕ} (t : Taken s log buffer) {i : ℕ} (c : Crossing log i) (k : ℕ) (low : k < 8) where
   own-crossed : crossedAt (ran i (freshBoard s) log) (recAt log i) k ≡ crossedIn s log i k

@@ -1,24 +1,25 @@
 -- Every name has its key: the line with that key is found in the table, at the place by which the name finds its value.
--- Where the line is, is computed; for the eight slots and the 32 partitions by a test over all of them.
-use mathlib.Core.Path.{_≡_, refl, ap, sym, _∙_}
+-- Where the line is, is computed; for the slots, the partitions and the eight schedules by a test over all of them.
+use mathlib.Core.Path.{_≡_, refl, ap, sym, subst, _∙_}
 use mathlib.Core.Bool.{Bool, true}
-use mathlib.Core.List.{_++_}
-use Prim.Native.Nat.{ℕ, _+_, _<_}
+use mathlib.Core.List.{List, _++_}
+use Prim.Native.Nat.{ℕ, _+_, _*_, _%_, _<_}
 use Prim.Native.String.{String}
-use native.Mathlib.Nat.{zero-add}
+use native.Mathlib.Nat.{zero-add, add-zero}
+use native.Mathlib.Omega.{arith}
 use borrow.Author.Tests.{eqb-true}
 use lib.Dec.{eqb}
-use lib.ListN.{length, getD, drop}
-use lib.Seq.{getD-take, getD-drop}
+use lib.ListN.{length, getD, take, drop, length-take, length-drop}
+use lib.Seq.{ext-getD, getD-take, getD-drop}
 use Rattle.laws.specs.Base.{allB, tabulate, firstNot}
 use Rattle.laws.proofs.All.{all-get}
 use Rattle.laws.proofs.Over.{length-tabulate, getD-tabulate}
 use Rattle.text.specs.Bytes.{bytes}
 use Rattle.text.specs.Decimal.{decimal, decimalOf}
-use Rattle.keys.specs.Settings.{table}
+use Rattle.keys.specs.Settings.{valueLines}
 use Rattle.settings.specs.declared.Settings.{Settings}
-use Rattle.settings.specs.Names.{after, timesOf}
-use Rattle.naming.specs.Named.{lineOf, valueOf, valueOfNth, atValues, NamedByKey}
+use Rattle.settings.specs.Names.{after, scheduleOf, timesOf}
+use Rattle.naming.specs.Named.{lineOf, valueOf, valueOfNth, atKey, atValue, atValues, NamedByKey}
 
 -- lines of one name, numbered from 0, stand one after the other from a place on
 abbrev standsAt : String → ℕ → ℕ → Bool
@@ -34,27 +35,111 @@ module _ (key : String) (first count : ℕ) (all : allB (standsAt key first) (ta
       ap (after s) (sym (eqb-true _ _ at))
 
 slots-stand : allB (standsAt "slot" 20) (tabulate (λ n. n) 0 8) ≡ true
-unfolding lineOf bytes decimal decimalOf table firstNot allB tabulate
+unfolding lineOf bytes decimal decimalOf valueLines firstNot allB tabulate
 slots-stand = refl
 
-parts-stand : allB (standsAt "part" 39) (tabulate (λ n. n) 0 32) ≡ true
-unfolding lineOf bytes decimal decimalOf table firstNot allB tabulate
+parts-stand : allB (standsAt "part" 116) (tabulate (λ n. n) 0 32) ≡ true
+unfolding lineOf bytes decimal decimalOf valueLines firstNot allB tabulate
 parts-stand = refl
 
--- the eleven times stand one after the other
-ats-stand : (s : Settings) → atValues s ≡ tabulate (λ i. after s (28 + i)) 0 11
-unfolding atValues valueOf lineOf bytes table firstNot tabulate
-ats-stand s = refl
+-- the lines of one name of the eight schedules stand eleven apart
+abbrev atStands : String → ℕ → ℕ → Bool
+atStands name j k = eqb (lineOf (atKey name k)) (28 + 11 * k + j)
 
-times-named : (s : Settings) (i : ℕ) → i < 11 → getD (timesOf s) i 0 ≡ getD (atValues s) i 0
-times-named s i h =
-    let there : getD (timesOf s) i 0 ≡ after s (28 + i) = getD-take 11 (drop 28 (s .values)) i 0 h ∙ getD-drop 28 (s .values) i 0 in
-    let listed : getD (atValues s) i 0 ≡ after s (28 + i) = rw (ats-stand s, getD-tabulate (λ i. after s (28 + i)) 0 11 i 0 h, zero-add) in
-    there ∙ sym listed
+module _ (name : String) (j : ℕ) (all : allB (atStands name j) (tabulate (λ n. n) 0 8) ≡ true) (s : Settings) (k : ℕ) (low : k < 8) where
+  number-named : after s (28 + 11 * k + j) ≡ atValue s name k
+  unfolding atValue
+  number-named =
+      let inside : k < length (tabulate (λ n. n) 0 8) = rw length-tabulate low in
+      let same : getD (tabulate (λ n. n) 0 8) k 0 ≡ k = getD-tabulate (λ n. n) 0 8 k 0 low ∙ zero-add k in
+      let at = subst (λ (x : ℕ). atStands name j x ≡ true) same (all-get (atStands name j) (tabulate (λ n. n) 0 8) k 0 all inside) in
+      ap (after s) (sym (eqb-true _ _ at))
+
+bc0-stand : allB (atStands "bc0" 0) (tabulate (λ n. n) 0 8) ≡ true
+unfolding atKey lineOf bytes decimal decimalOf valueLines firstNot allB tabulate
+bc0-stand = refl
+
+te-stand : allB (atStands "te" 1) (tabulate (λ n. n) 0 8) ≡ true
+unfolding atKey lineOf bytes decimal decimalOf valueLines firstNot allB tabulate
+te-stand = refl
+
+resync-stand : allB (atStands "resync" 2) (tabulate (λ n. n) 0 8) ≡ true
+unfolding atKey lineOf bytes decimal decimalOf valueLines firstNot allB tabulate
+resync-stand = refl
+
+hard-stand : allB (atStands "hard" 3) (tabulate (λ n. n) 0 8) ≡ true
+unfolding atKey lineOf bytes decimal decimalOf valueLines firstNot allB tabulate
+hard-stand = refl
+
+ec0-stand : allB (atStands "ec0" 4) (tabulate (λ n. n) 0 8) ≡ true
+unfolding atKey lineOf bytes decimal decimalOf valueLines firstNot allB tabulate
+ec0-stand = refl
+
+oc0-stand : allB (atStands "oc0" 5) (tabulate (λ n. n) 0 8) ≡ true
+unfolding atKey lineOf bytes decimal decimalOf valueLines firstNot allB tabulate
+oc0-stand = refl
+
+start-stand : allB (atStands "start" 6) (tabulate (λ n. n) 0 8) ≡ true
+unfolding atKey lineOf bytes decimal decimalOf valueLines firstNot allB tabulate
+start-stand = refl
+
+stop-stand : allB (atStands "stop" 7) (tabulate (λ n. n) 0 8) ≡ true
+unfolding atKey lineOf bytes decimal decimalOf valueLines firstNot allB tabulate
+stop-stand = refl
+
+gap-stand : allB (atStands "gap" 8) (tabulate (λ n. n) 0 8) ≡ true
+unfolding atKey lineOf bytes decimal decimalOf valueLines firstNot allB tabulate
+gap-stand = refl
+
+wte-stand : allB (atStands "wte" 9) (tabulate (λ n. n) 0 8) ≡ true
+unfolding atKey lineOf bytes decimal decimalOf valueLines firstNot allB tabulate
+wte-stand = refl
+
+cal-stand : allB (atStands "cal" 10) (tabulate (λ n. n) 0 8) ≡ true
+unfolding atKey lineOf bytes decimal decimalOf valueLines firstNot allB tabulate
+cal-stand = refl
+
+module _ (s : Settings) (k : ℕ) (low : k < 8) where
+  own : k % 8 ≡ k
+  own = omega arith
+
+  -- number j by its place and by its key
+  abbrev number : ℕ → ℕ
+  number j = after s (28 + 11 * k + j)
+
+  listed : atValues s k ≡ tabulate number 0 11
+  unfolding atValues tabulate
+  listed =
+      rw (← number-named "bc0" 0 bc0-stand s k low, ← number-named "te" 1 te-stand s k low, ← number-named "resync" 2 resync-stand s k low, ← number-named "hard" 3 hard-stand s k low, ← number-named "ec0" 4 ec0-stand s k low, ← number-named "oc0" 5 oc0-stand s k low, ← number-named "start" 6 start-stand s k low, ← number-named "stop" 7 stop-stand s k low, ← number-named "gap" 8 gap-stand s k low, ← number-named "wte" 9 wte-stand s k low, ← number-named "cal" 10 cal-stand s k low)
+
+  schedule-named : scheduleOf s k ≡ record {
+    bc0 = atValue s "bc0" k;
+    te = atValue s "te" k;
+    resync = atValue s "resync" k;
+    hard = atValue s "hard" k;
+    ec0 = atValue s "ec0" k;
+    oc0 = atValue s "oc0" k;
+    start = atValue s "start" k;
+    stop = atValue s "stop" k;
+    gap = atValue s "gap" k;
+    wte = atValue s "wte" k;
+    cal = atValue s "cal" k;
+  }
+  schedule-named =
+      rw (← number-named "bc0" 0 bc0-stand s k low, ← number-named "te" 1 te-stand s k low, ← number-named "resync" 2 resync-stand s k low, ← number-named "hard" 3 hard-stand s k low, ← number-named "ec0" 4 ec0-stand s k low, ← number-named "oc0" 5 oc0-stand s k low, ← number-named "start" 6 start-stand s k low, ← number-named "stop" 7 stop-stand s k low, ← number-named "gap" 8 gap-stand s k low, ← number-named "wte" 9 wte-stand s k low, ← number-named "cal" 10 cal-stand s k low, own, add-zero)
+
+  times-named : length (s .values) ≡ 148 → timesOf s k ≡ atValues s k
+  times-named long =
+      let enough : length (timesOf s k) ≡ 11 = simp (length-take, length-drop) (omega arith) in
+      ext-getD 0 (timesOf s k) (tabulate number 0 11) (enough ∙ sym (length-tabulate number 0 11))
+      (λ i h.
+      let few : i < 11 = rw enough at h in
+      getD-take 11 (drop (28 + 11 * k) (s .values)) i 0 few ∙ getD-drop (28 + 11 * k) (s .values) i 0 ∙ sym (getD-tabulate number 0 11 i 0 few ∙ rw zero-add))
+      ∙ sym listed
 
 pub named-by-key : NamedByKey
-unfolding valueOf lineOf bytes table firstNot
-named-by-key s =
+unfolding valueOf lineOf bytes valueLines firstNot
+named-by-key s long =
     record {
       orbit = refl;
       gap = refl;
@@ -63,7 +148,7 @@ named-by-key s =
       ignores = refl;
       waits = refl;
       slot = nth-named "slot" 20 8 slots-stand s;
-      schedule = refl;
-      times = times-named s;
-      part = nth-named "part" 39 32 parts-stand s;
+      schedule = schedule-named s;
+      times = λ k low. times-named s k low long;
+      part = nth-named "part" 116 32 parts-stand s;
     }

@@ -1,4 +1,4 @@
--- Document 01, "Settings text": every name with its key. `Names.antt` finds a value by the place of its line; here each is found by the
+-- Documents 01, "Settings text", and 02, P2: every name with its key. `Names.antt` finds a value by the place of its line; here each is found by the
 -- key that stands on the line, so that a place which is off, in the names or in the table, makes this false.
 use Prim.Native.Nat.{ℕ, _<_}
 use Prim.Native.String.{String}
@@ -6,12 +6,12 @@ use mathlib.Core.Path.{_≡_}
 use mathlib.Core.Bool.{Bool, true, false, not, _&&_}
 use mathlib.Core.List.{List, [], _∷_, _++_}
 use lib.Dec.{eqb}
-use lib.ListN.{getD}
+use lib.ListN.{length, getD}
 use Rattle.laws.specs.Base.{firstNot}
 use Rattle.text.specs.Bytes.{bytes}
 use Rattle.text.specs.Decimal.{decimal}
 use Rattle.text.specs.Lines.{keysOf}
-use Rattle.keys.specs.Settings.{table}
+use Rattle.keys.specs.Settings.{valueLines}
 use Rattle.settings.specs.declared.Settings.{Settings}
 use Rattle.settings.specs.declared.names.Rule.{Rule}
 use Rattle.settings.specs.Names.{after, orbitOf, gapOf, rulesOf, warnBlocksOf, ignoresOf, waitsOf, slotOf, scheduleOf, timesOf, partOf}
@@ -22,10 +22,10 @@ sameBytes [] (b ∷ bs) = false
 sameBytes (a ∷ more) [] = false
 sameBytes (a ∷ more) (b ∷ bs) = eqb a b && sameBytes more bs
 
--- how many lines stand before the one with this key; 71 where there is none
+-- how many lines stand before the one with this key, the edition's not counted; 148 where there is none
 unfoldable pub lineOf : List ℕ → ℕ
-unfolding table
-lineOf key = firstNot (λ n. not (sameBytes key (getD (keysOf table) n []))) 71 0
+unfolding valueLines
+lineOf key = firstNot (λ n. not (sameBytes key (getD (keysOf valueLines) n []))) 148 0
 
 -- the value of the line with this key, and with this key and a number
 unfoldable pub valueOf : Settings → String → ℕ
@@ -39,20 +39,29 @@ valueOfNth s key n = after s (lineOf (bytes key ++ decimal n))
 abbrev pub ruleOf : Settings → (period norm low : String) → Rule
 ruleOf s period norm low = record { period = valueOf s period; norm = valueOf s norm; low = valueOf s low }
 
-unfoldable pub atValues : Settings → List ℕ
-unfolding valueOf
-atValues s =
-    valueOf s "at_bc0"
-    ∷ valueOf s "at_te"
-    ∷ valueOf s "at_resync"
-    ∷ valueOf s "at_hard"
-    ∷ valueOf s "at_ec0"
-    ∷ valueOf s "at_oc0"
-    ∷ valueOf s "at_start"
-    ∷ valueOf s "at_stop"
-    ∷ valueOf s "at_gap"
-    ∷ valueOf s "at_wte"
-    ∷ valueOf s "at_cal"
+-- of controller k's line `atk_name`
+unfoldable pub atKey : String → ℕ → List ℕ
+unfolding bytes decimal
+atKey name k = bytes "at" ++ (decimal k ++ (bytes "_" ++ bytes name))
+
+unfoldable pub atValue : Settings → String → ℕ → ℕ
+unfolding lineOf atKey
+atValue s name k = after s (lineOf (atKey name k))
+
+unfoldable pub atValues : Settings → ℕ → List ℕ
+unfolding atValue
+atValues s k =
+    atValue s "bc0" k
+    ∷ atValue s "te" k
+    ∷ atValue s "resync" k
+    ∷ atValue s "hard" k
+    ∷ atValue s "ec0" k
+    ∷ atValue s "oc0" k
+    ∷ atValue s "start" k
+    ∷ atValue s "stop" k
+    ∷ atValue s "gap" k
+    ∷ atValue s "wte" k
+    ∷ atValue s "cal" k
     ∷ []
 
 pub record Named (s : Settings) : Type 0 where
@@ -71,22 +80,22 @@ pub record Named (s : Settings) : Type 0 where
     recover = record { resync = valueOf s "recover_resync"; hard = valueOf s "recover_hard" };
   }
   pub slot : (k : ℕ) → k < 8 → slotOf s k ≡ valueOfNth s "slot" k
-  pub schedule : scheduleOf s ≡ record {
-    bc0 = valueOf s "at_bc0";
-    te = valueOf s "at_te";
-    resync = valueOf s "at_resync";
-    hard = valueOf s "at_hard";
-    ec0 = valueOf s "at_ec0";
-    oc0 = valueOf s "at_oc0";
-    start = valueOf s "at_start";
-    stop = valueOf s "at_stop";
-    gap = valueOf s "at_gap";
-    wte = valueOf s "at_wte";
-    cal = valueOf s "at_cal";
+  pub schedule : (k : ℕ) → k < 8 → scheduleOf s k ≡ record {
+    bc0 = atValue s "bc0" k;
+    te = atValue s "te" k;
+    resync = atValue s "resync" k;
+    hard = atValue s "hard" k;
+    ec0 = atValue s "ec0" k;
+    oc0 = atValue s "oc0" k;
+    start = atValue s "start" k;
+    stop = atValue s "stop" k;
+    gap = atValue s "gap" k;
+    wte = atValue s "wte" k;
+    cal = atValue s "cal" k;
   }
-  -- the eleven `at_` values that relations 2 and 3 are about
-  pub times : (i : ℕ) → i < 11 → getD (timesOf s) i 0 ≡ getD (atValues s) i 0
+  -- the eleven numbers of a controller that relations 2 and 3 are about
+  pub times : (k : ℕ) → k < 8 → timesOf s k ≡ atValues s k
   pub part : (p : ℕ) → p < 32 → partOf s p ≡ valueOfNth s "part" p
 
 abbrev pub NamedByKey : Type 0
-NamedByKey = (s : Settings) → Named s
+NamedByKey = (s : Settings) → length (s .values) ≡ 148 → Named s

@@ -8,9 +8,9 @@ use Rattle.answer.specs.Told.{Told, told}
 use Rattle.answer.proofs.Told.{told-one}
 use Rattle.text.proofs.Known.{line-known}
 use Rattle.settings.specs.declared.Settings.{Settings}
-use Rattle.settings.specs.declared.Read.{Read}
-use Rattle.settings.specs.Read.{ReadOut, readOut}
-use Rattle.settings.specs.Write.{WriteOut, writeOut}
+use Rattle.editions.specs.declared.Read.{Read}
+use Rattle.editions.specs.Read.{ReadOut, readOut}
+use Rattle.editions.specs.Write.{WriteOut, writeOut}
 use Rattle.records.specs.declared.blocks.Tested.{Tested}
 use Rattle.records.specs.support.Blocks.{TestedOut, testedOut}
 use Rattle.board.specs.declared.Board.{Board}
@@ -28,6 +28,9 @@ known d a b p q = p ∙ sym q
 
 bounded : {A : Type 0} (d : A) (P : A → Type 0) → One (λ (r : A). (r ≡ d) × P r)
 bounded d P a b p q = known d a b (p .0) (q .0)
+
+between : {A : Type 0} (d : A) (P Q : A → Type 0) → One (λ (r : A). (r ≡ d) × P r × Q r)
+between d P Q a b p q = known d a b (p .0) (q .0)
 
 -- facts about what was lent say nothing more of the result
 given : {A : Type 0} (d : A) (P Q : Type 0) → One (λ (r : A). (r ≡ d) × P × Q)
@@ -110,10 +113,12 @@ one-outcome =
       put-keys = λ κs buffer at first values. laid _ _;
       line-length = λ n v. bounded _ _;
       lines-length = λ κs first values. bounded _ _;
+      range = λ κs lows highs n. between _ _ _;
+      fault = λ f. told-known _;
       put-row = λ κs buffer row. filled _;
       pass = λ κs ring c x. filled _;
       is-firm = λ κs carried believed. given _ _ _;
       follow = λ κs carried believed firm codes. held _ _ _;
       first-sight = λ κs turn table carried believed. given _ _ _;
-      next-sight = λ κs sight at table slots clock calm carried believed log i. held _ _ _;
+      next-sight = λ κs sight busy table slots clock calm carried believed log i. held _ _ _;
     }

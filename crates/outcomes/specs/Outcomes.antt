@@ -9,7 +9,7 @@ use contract.Lifetimes.{Lfts}
 use Rattle.answer.specs.declared.Answer.{Answer}
 use Rattle.text.specs.declared.Range.{Range}
 use Rattle.settings.specs.declared.Settings.{Settings}
-use Rattle.settings.specs.declared.names.Schedule.{Schedule}
+use Rattle.settings.specs.declared.relations.Fault.{Fault}
 use Rattle.clock.specs.declared.Clock.{Clock}
 use Rattle.clock.specs.declared.Turn.{Turn}
 use Rattle.still.specs.declared.Sight.{Sight}
@@ -24,11 +24,13 @@ use Rattle.keys.proofs.put_line.Reads as put-key-contract
 use Rattle.keys.proofs.put_lines.Reads as put-keys-contract
 use Rattle.keys.proofs.line_length.Reads as line-length-contract
 use Rattle.keys.proofs.lines_length.Reads as lines-length-contract
-use Rattle.settings.proofs.Settings.read.Reads as read-contract
-use Rattle.settings.proofs.Settings.write.Reads as write-contract
+use Rattle.keys.proofs.range.Reads as range-contract
 use Rattle.settings.proofs.Settings.check.Reads as check-contract
 use Rattle.settings.proofs.Settings.standard.Reads as standard-contract
-use Rattle.settings.proofs.Settings.text_length.Reads as settings-length-contract
+use Rattle.settings.proofs.relations.Fault.told.Reads as fault-contract
+use Rattle.editions.proofs.read_text.Reads as read-contract
+use Rattle.editions.proofs.write_text.Reads as write-contract
+use Rattle.editions.proofs.text_length.Reads as settings-length-contract
 use Rattle.steady.proofs.is_firm.Reads as is-firm-contract
 use Rattle.steady.proofs.follow.Reads as follow-contract
 use Rattle.throttle.proofs.pass.Reads as pass-contract
@@ -99,6 +101,8 @@ pub record OneOutcome : Type 0 where
       → OneFilling (put-keys-contract.Post κs) (λ out. (out, (at, (first, (values, tt))))) buffer
   pub line-length : (n v : ℕ) → OneValue (line-length-contract.Post tt) (n, (v, tt))
   pub lines-length : (κs : Lfts 1) (first : ℕ) (values : Lent) → OneValue (lines-length-contract.Post κs) (first, (values, tt))
+  pub range : (κs : Lfts 2) (lows highs : Lent) (n : ℕ) → OneValue (range-contract.Post κs) (lows, (highs, (n, tt)))
+  pub fault : (f : Fault) → OneValue (fault-contract.Post tt) (f, tt)
   pub put-row : (κs : Lfts 1) (buffer : Lent) (row : List ℕ) → OneFilling (put-row-contract.Post κs) (λ out. (out, (row, tt))) buffer
   pub pass : (κs : Lfts 1) (ring : Lent) (c x : ℕ) → OneFilling (pass-contract.Post κs) (λ marks. (marks, (c, (x, tt)))) ring
   pub is-firm : (κs : Lfts 2) (carried believed : Lent) → OneValue (is-firm-contract.Post κs) (carried, (believed, tt))
@@ -106,5 +110,5 @@ pub record OneOutcome : Type 0 where
       → OneHolding (follow-contract.Post κs) (λ c b. (c, (b, (firm, (codes, tt))))) carried believed
   pub first-sight : (κs : Lfts 3) (turn : Turn) (table carried believed : Lent)
       → OneValue (first-contract.Post κs) (turn, (table, (carried, (believed, tt))))
-  pub next-sight : (κs : Lfts 5) (sight : Sight) (at : Schedule) (table slots : Lent) (clock : Clock) (calm : Bool) (carried believed log : Lent) (i : ℕ)
-      → OneHolding (next-contract.Post κs) (λ c b. (sight, (at, (table, (slots, (clock, (calm, (c, (b, (log, (i, tt))))))))))) carried believed
+  pub next-sight : (κs : Lfts 6) (sight : Sight) (busy table slots : Lent) (clock : Clock) (calm : Bool) (carried believed log : Lent) (i : ℕ)
+      → OneHolding (next-contract.Post κs) (λ c b. (sight, (busy, (table, (slots, (clock, (calm, (c, (b, (log, (i, tt))))))))))) carried believed

@@ -56,13 +56,13 @@ module _ {s : Settings} {log buffer : List ℕ} (t : Taken s log buffer) {i : �
 
   -- ---- what the bits of the row say of controller k
 
-  pub sent-says : sentIn row k ≡ true → SentIs (planOf s) (sceneIn s log i) k (classIn s log i k) (askedIn (getD (recAt log i) 2 0) k) (ptcIn s log i k)
+  pub sent-says : sentIn row k ≡ true → SentIs (planOf s k) (sceneIn s log i) k (classIn s log i k) (askedIn (getD (recAt log i) 2 0) k) (ptcIn s log i k)
   sent-says e =
-      sent-is (planOf s) (sceneIn s log i) k (classIn s log i k) (askedIn (getD (recAt log i) 2 0) k) (ptcIn s log i k) (sym (sent-told t c k low) ∙ e)
+      sent-is (planOf s k) (sceneIn s log i) k (classIn s log i k) (askedIn (getD (recAt log i) 2 0) k) (ptcIn s log i k) (sym (sent-told t c k low) ∙ e)
 
-  pub cal-says : calIn row k ≡ true → CalIs (planOf s) (sceneIn s log i) k (classIn s log i k) (askedIn (getD (recAt log i) 2 0) k) (ptcIn s log i k)
+  pub cal-says : calIn row k ≡ true → CalIs (planOf s k) (sceneIn s log i) k (classIn s log i k) (askedIn (getD (recAt log i) 2 0) k) (ptcIn s log i k)
   cal-says e =
-      cal-is (planOf s) (sceneIn s log i) k (classIn s log i k) (askedIn (getD (recAt log i) 2 0) k) (ptcIn s log i k) (sym (cal-told t c k low) ∙ e)
+      cal-is (planOf s k) (sceneIn s log i) k (classIn s log i k) (askedIn (getD (recAt log i) 2 0) k) (ptcIn s log i k) (sym (cal-told t c k low) ∙ e)
 
   holds-it : eqb k (sceneIn s log i .holder) ≡ true → k ≡ holderBy s log i
   holds-it e = eqb-true k (sceneIn s log i .holder) e ∙ holder-seen t c
@@ -103,7 +103,7 @@ module _ {s : Settings} {log buffer : List ℕ} (t : Taken s log buffer) {i : �
   one-kind =
       apart-sum (sentIn row k) (calIn row k)
       (rw (sent-told t c k low, cal-told t c k low)
-      (never-both (planOf s) (sceneIn s log i) k (classIn s log i k) (askedIn (getD (recAt log i) 2 0) k) (ptcIn s log i k)))
+      (never-both (planOf s k) (sceneIn s log i) k (classIn s log i k) (askedIn (getD (recAt log i) 2 0) k) (ptcIn s log i k)))
 
   none-else : (k ≡ holderBy s log i → ⊥) → one (sentIn row k) + one (calIn row k) ≡ 0
   none-else n =

@@ -7,9 +7,10 @@ use Rattle.laws.proofs.Bools.{if-has}
 use Rattle.answer.specs.Told.{succeeded}
 use Rattle.settings.specs.declared.Settings.{Settings}
 use Rattle.settings.specs.Check.{checked}
-use Rattle.settings.specs.Read.{standard, readText}
+use Rattle.settings.specs.Standard.{standard}
+use Rattle.editions.specs.Read.{readText}
 use Rattle.settings.proofs.Standard.{standard-checks}
-use Rattle.settings.proofs.Bounds.{done-checks}
+use Rattle.settings.proofs.Passed.{done-checks}
 use Rattle.board.specs.declared.Board.{Board}
 use Rattle.board.specs.Fresh.{freshBoard, freshOf, MadeOut}
 use Rattle.board.specs.Block.{RanOut, answerOf, blockOf}

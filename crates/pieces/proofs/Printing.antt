@@ -14,7 +14,7 @@ use Rattle.report.specs.Fits.{reportRoom}
 use Rattle.report.proofs.Fits.{report-fits}
 use Rattle.replay.specs.Replay.{openedOf, blocksIn, inBlocks}
 use Rattle.replay.specs.Printed.{replayed, printedBy, printedOf, rowsPrinted}
-use Rattle.replay.proofs.Prefix.{opened-by-start}
+use Rattle.replay.proofs.Laws.{opened-by-start}
 use Rattle.cut.proofs.Program.{program}
 use Rattle.pieces.specs.Printing.{outcomeOf, Printing}
 use Rattle.pieces.proofs.Pieces.{as-replayed}

@@ -5,6 +5,7 @@ use mathlib.Core.Bool.{true}
 use mathlib.Core.List.{List, _++_}
 use lib.ListN.{length, take, drop}
 use Rattle.answer.specs.Told.{DONE}
+use Rattle.editions.specs.support.Prefix.{textMost}
 use Rattle.records.specs.Refusal.{recordsIn}
 use Rattle.board.specs.Sound.{soundBoard}
 use Rattle.board.specs.Block.{RanOut, blockOf}
@@ -18,8 +19,8 @@ abbrev pub outcomeOf : (text log : List ℕ) → RanOut
 outcomeOf text log = replayed (openedOf text .board) log
 
 pub record Printing : Type 0 where
-  -- the first 1,024 bytes of the text decide
-  pub by-start : (shown : RanOut → List ℕ) (text log : List ℕ) → printedBy shown (take 1024 text) log ≡ printedBy shown text log
+  -- the first 4,096 bytes of the text decide
+  pub by-start : (shown : RanOut → List ℕ) (text log : List ℕ) → printedBy shown (take textMost text) log ≡ printedBy shown text log
   -- the board after any log, refused or not, is sound
   pub sound : (text log : List ℕ) → soundBoard (outcomeOf text log .board) ≡ true
   -- the report that is printed is the one that is written into the programs' buffer, and that is never refused

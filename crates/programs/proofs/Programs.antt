@@ -11,16 +11,19 @@ use Rattle.laws.specs.Base.{if, mapI, tabulate, firstNot}
 use Rattle.laws.proofs.Bools.{if-yes}
 use Rattle.answer.specs.Told.{DONE, RANGE, BOARD, ROOM}
 use Rattle.answer.proofs.Told.{not-done}
+use Rattle.text.specs.Bytes.{bytes}
 use Rattle.text.specs.Number.{number}
 use Rattle.text.specs.Lines.{lineHead, lineText, readLine}
-use Rattle.keys.specs.Settings.{table}
+use Rattle.keys.specs.Settings.{opening, valueLines, tableOf}
 use Rattle.keys.specs.Report.{commonKeys, blockKeys}
 use Rattle.settings.specs.declared.Settings.{Settings}
-use Rattle.settings.specs.Check.{checked}
-use Rattle.settings.specs.Read.{ReadOut, standard, readText}
-use Rattle.settings.specs.Write.{textOf, writeAnswer, written}
-use Rattle.settings.proofs.Standard.{standard-checks, standard-length}
-use Rattle.settings.proofs.RoundTrip.{accepted, text-reads-back, write-checks}
+use Rattle.settings.specs.Check.{outOfRange, checked}
+use Rattle.settings.specs.Standard.{standard}
+use Rattle.settings.proofs.Standard.{standard-checks}
+use Rattle.editions.specs.Read.{ReadOut, editionOf, readText}
+use Rattle.editions.specs.Write.{textOf, writeAnswer, written}
+use Rattle.editions.proofs.Standard.{standard-length}
+use Rattle.editions.proofs.RoundTrip.{accepted, text-back, text-reads-back, first-text-accepted, first-of, known-alone, write-checks}
 use Rattle.clock.specs.Turn.{nextFrom, takesOver, freshTurn}
 use Rattle.ptc.specs.Counts.{requestedOf}
 use Rattle.ptc.specs.Crossing.{crossedOf}
@@ -28,7 +31,7 @@ use Rattle.records.specs.Records.{askedIn, wellCrossing, wellCommand, well, cro
 use Rattle.records.specs.Refusal.{recordsIn, refusalOf}
 use Rattle.board.specs.declared.Board.{Board}
 use Rattle.eight.specs.Eight.{actOf}
-use Rattle.board.specs.Crossing.{boardCrossed}
+use Rattle.board.specs.Crossing.{crossedBy}
 use Rattle.board.specs.Run.{stepped, ran}
 use Rattle.board.specs.Sound.{soundBoard}
 use Rattle.board.specs.Fresh.{freshBoard, freshOf}
@@ -40,8 +43,8 @@ use Rattle.cut.proofs.Cut.{cut}
 use Rattle.balance.proofs.Balance.{balance}
 use Rattle.programs.specs.Programs.{orbitZero, fresh, unsound, crossing, shortened, damaged, requestedIn, ReadsText, WritesText, MakesBoard, RunsBlock, WritesReport, NoEmptyProgram}
 
-zero-checks : checked orbitZero ≡ RANGE 1
-unfolding checked standard table
+zero-checks : checked orbitZero ≡ RANGE 2
+unfolding checked outOfRange standard valueLines
 zero-checks = refl
 
 room-yes : (need room : ℕ) → if (leb need room) DONE (ROOM need) ≡ DONE → need ≤ room
@@ -49,19 +52,26 @@ room-yes need room e = leb-true need room (if-yes (leb need room) DONE (ROOM nee
 
 -- ---- reading
 
-standard-long : length (standard .values) ≡ 71
+standard-long : length (standard .values) ≡ 148
 unfolding standard
 standard-long = refl
 
 reading : ReadsText
-unfolding readText table readLine lineHead lineText number
+unfolding readText editionOf tableOf opening readLine lineHead lineText number bytes
 reading =
     record {
       accepts = text-reads-back;
-      accepted = λ text e. let a = accepted text e in (a .long, a .checks, a .text);
+      accepted = λ text e own. let a = accepted text e in (a .long, a .checks, text-back text own a);
+      first-accepts = λ ns o. first-text-accepted ns (o .long) (o .inside) (o .related);
+      first-accepted = λ text e own.
+          let f = first-of text own (accepted text e) in
+          (f .numbers, record { long = f .long; inside = f .inside; related = f .related }, f .text, f .settings);
+      known-alone = λ text e. known-alone text (accepted text e);
       standard-text = ap (λ (o : ReadOut). o .answer) (text-reads-back standard standard-long standard-checks);
       empty-text = refl;
       small-orbit = refl;
+      small-orbit-newest = refl;
+      no-edition = refl;
     }
 
 -- ---- writing, and the fresh board
@@ -109,7 +119,7 @@ counted : (requests : ℕ) → requestedIn (blockOf fresh (crossing requests) (r
 counted requests = ap (λ (o : RanOut). requestedIn (o .board)) (block-done fresh (crossing requests) (replicate 12 0) (accepts-crossing requests))
 
 running : RunsBlock
-unfolding refusalOf firstNot well wellCrossing wellCommand ran stepped boardCrossed mapI actOf crossedOf requestedOf askedIn freshBoard
+unfolding refusalOf firstNot well wellCrossing wellCommand ran stepped crossedBy mapI actOf crossedOf requestedOf askedIn freshBoard
 running =
     record {
       accepts = λ b log rows sound r. block-answer b log rows ∙ ready-done b log (length rows) sound r;

@@ -3,16 +3,20 @@
 -- gives, one that feigns later blocks by the cut, and one that invents counts by the balance.
 use Prim.Native.Nat.{ℕ, _+_, _*_, _≤_}
 use mathlib.Core.Path.{_≡_}
+use mathlib.Core.Logic.{_⊎_}
 use mathlib.Core.Bool.{true}
 use mathlib.Core.List.{List, [], _∷_, _++_}
 use lib.ListN.{length, drop, getD, set, replicate}
 use Rattle.answer.specs.Told.{DONE, TEXT, RANGE, BOARD, LENGTH, ROOM, RECORD}
 use Rattle.text.specs.Bytes.{bytes}
-use Rattle.text.specs.Lines.{lineHead, lineText}
+use Rattle.text.specs.Lines.{keysOf, rangesOf, firstOut, lineHead, lineText, linesText}
+use Rattle.keys.specs.Settings.{newest, tableOf}
 use Rattle.settings.specs.declared.Settings.{Settings}
 use Rattle.settings.specs.Check.{checked}
-use Rattle.settings.specs.Read.{standard, readText}
-use Rattle.settings.specs.Write.{textOf, written}
+use Rattle.settings.specs.Relations.{relation}
+use Rattle.settings.specs.Standard.{standard}
+use Rattle.editions.specs.Read.{editionOf, laidOut, readText}
+use Rattle.editions.specs.Write.{textOf, written}
 use Rattle.records.specs.Records.{crossingsIn}
 use Rattle.records.specs.Refusal.{recordsIn, Ready}
 use Rattle.board.specs.declared.Board.{Board}
@@ -31,8 +35,21 @@ use Rattle.balance.specs.Balanced.{Balances}
 abbrev pub orbitFive : List ℕ
 orbitFive = lineText (lineHead (bytes "orbit")) 5
 
+-- a first line that states an edition
+abbrev pub editionLine : ℕ → List ℕ
+editionLine = lineText (lineHead (bytes "edition"))
+
 abbrev pub orbitZero : Settings
 orbitZero = record { values = set (standard .values) 0 0 }
+
+-- the first edition's text of these numbers, and that they are in order
+abbrev pub firstText : List ℕ → List ℕ
+firstText = linesText (keysOf (tableOf 1))
+
+pub record InOrder (ns : List ℕ) : Type 0 where
+  pub long : length ns ≡ 71
+  pub inside : firstOut (rangesOf (tableOf 1)) 1 ns ≡ 0
+  pub related : relation (laidOut 1 ns) .relation ≡ 0
 
 abbrev pub fresh : Board
 fresh = freshBoard standard
@@ -57,23 +74,30 @@ requestedIn b = getD (b .ptcs) 0 freshPtc .counts .requested
 
 -- ---- the operations
 
--- a text is accepted exactly if it is that of 71 values that pass the checks, and gives them
+-- a text of the newest edition is accepted exactly if it is that of 148 values that pass the checks, and gives them; one of the first
+-- exactly if it is that of 71 numbers in their ranges that, laid out, fail no relation, and gives those
 pub record ReadsText : Type 0 where
-  pub accepts : (s : Settings) → length (s .values) ≡ 71 → checked s ≡ DONE → readText (textOf s) ≡ record { answer = DONE; settings = s }
-  pub accepted : (text : List ℕ) → readText text .answer ≡ DONE
-      → (length (readText text .settings .values) ≡ 71) × (checked (readText text .settings) ≡ DONE) × (textOf (readText text .settings) ≡ text)
+  pub accepts : (s : Settings) → length (s .values) ≡ 148 → checked s ≡ DONE → readText (textOf s) ≡ record { answer = DONE; settings = s }
+  pub accepted : (text : List ℕ) → readText text .answer ≡ DONE → editionOf text ≡ newest
+      → (length (readText text .settings .values) ≡ 148) × (checked (readText text .settings) ≡ DONE) × (textOf (readText text .settings) ≡ text)
+  pub first-accepts : (ns : List ℕ) → InOrder ns → readText (firstText ns) ≡ record { answer = DONE; settings = laidOut 1 ns }
+  pub first-accepted : (text : List ℕ) → readText text .answer ≡ DONE → editionOf text ≡ 1
+      → (ns : List ℕ) × InOrder ns × (text ≡ firstText ns) × (readText text .settings ≡ laidOut 1 ns)
+  pub known-alone : (text : List ℕ) → readText text .answer ≡ DONE → (editionOf text ≡ 1) ⊎ (editionOf text ≡ newest)
   pub standard-text : readText (textOf standard) .answer ≡ DONE
   pub empty-text : readText [] .answer ≡ TEXT 1
   pub small-orbit : readText orbitFive .answer ≡ RANGE 1
+  pub small-orbit-newest : readText (editionLine newest ++ orbitFive) .answer ≡ RANGE 2
+  pub no-edition : readText (editionLine 1 ++ orbitFive) .answer ≡ TEXT 1
 
 -- settings are written exactly if they pass the checks and their text fits
 pub record WritesText : Type 0 where
   pub accepts : (s : Settings) (buffer : List ℕ) → checked s ≡ DONE → length (textOf s) ≤ length buffer
       → written s buffer ≡ record { answer = DONE; buffer = textOf s ++ drop (length (textOf s)) buffer }
   pub accepted : (s : Settings) (buffer : List ℕ) → written s buffer .answer ≡ DONE → (checked s ≡ DONE) × (length (textOf s) ≤ length buffer)
-  pub just-fits : written standard (replicate 723 0) .answer ≡ DONE
-  pub no-room : written standard [] .answer ≡ ROOM 723
-  pub no-orbit : written orbitZero [] .answer ≡ RANGE 1
+  pub just-fits : written standard (replicate 1724 0) .answer ≡ DONE
+  pub no-room : written standard [] .answer ≡ ROOM 1724
+  pub no-orbit : written orbitZero [] .answer ≡ RANGE 2
 
 -- a fresh board is made exactly of settings that pass the checks, and keeps them: two settings give two boards
 pub record MakesBoard : Type 0 where
@@ -81,7 +105,7 @@ pub record MakesBoard : Type 0 where
   pub accepted : (s : Settings) → freshOf s .answer ≡ DONE → checked s ≡ DONE
   pub keeps-settings : (s : Settings) → freshOf s .answer ≡ DONE → freshOf s .board .settings ≡ s
   pub of-standard : freshOf standard .answer ≡ DONE
-  pub no-orbit : freshOf orbitZero .answer ≡ RANGE 1
+  pub no-orbit : freshOf orbitZero .answer ≡ RANGE 2
 
 -- a block is accepted exactly if the board is sound and the records have no fault. It then gives what they make of the board, and has
 -- counted each of its crossings

@@ -1,11 +1,12 @@
 -- Every promise is kept: each by its own theorem.
 -- Nothing is argued here; this is where the three demands stand complete.
-use Rattle.settings.proofs.RoundTrip.{accepted-writes-back, written-reads-back}
+use Rattle.editions.proofs.RoundTrip.{accepted-writes-back, written-reads-back, older-reads-back}
 use Rattle.naming.proofs.Named.{named-by-key}
 use Rattle.lanes.proofs.Laws.{one-pass}
 use Rattle.throttle.proofs.Ring.{marking}
 use Rattle.eight.proofs.Orbits.{orbits-cleared}
 use Rattle.replay.proofs.TestedFirst.{tested-first}
+use Rattle.views.proofs.AsBefore.{as-before}
 use Rattle.outcomes.proofs.Outcomes.{one-outcome}
 use Rattle.figures.proofs.Figures.{figures}
 use Rattle.report.proofs.Fits.{report-fits}
@@ -29,7 +30,7 @@ promises =
       refusals = refusals;
       tied = record { names = named-by-key; merge = one-pass; marks = marking; orbits = orbits-cleared; blocks = tested-first; held = all-held };
       one-outcome = one-outcome;
-      round-trips = record { accepted-writes-back = accepted-writes-back; written-reads-back = written-reads-back };
+      round-trips = record { accepted-writes-back = accepted-writes-back; written-reads-back = written-reads-back; older-reads-back = older-reads-back };
       figures = figures;
       whole-log = whole-log;
       program = program;
@@ -42,5 +43,6 @@ promises =
       never-twice = never-twice;
       bounce = bounce;
       sample = sample;
+      as-before = as-before;
       no-empty-program = no-empty-program;
     }

@@ -1,20 +1,24 @@
 -- A refused call changes nothing: each definition's other arm gives back what came in.
 -- Which arm it was is told by the answer, which both arms share.
 use mathlib.Core.Path.{_≡_, refl, sym, ap, _∙_}
+use mathlib.Core.Logic.{⊎-elim}
 use mathlib.Core.Bool.{true, false, false≢true}
 use mathlib.Core.List.{List, [], _∷_}
-use Prim.Native.Nat.{ℕ, zero, suc, _≤_}
+use Prim.Native.Nat.{ℕ, _≤_}
 use native.Mathlib.Omega.{arith}
+use lib.Dec.{eqb}
 use lib.ListN.{length}
+use Rattle.laws.proofs.Tests.{either}
 use Rattle.answer.specs.declared.Answer.{Answer}
 use Rattle.answer.specs.declared.Answer.the-variants.{Done, Text, Range, Relation, Board, Length, Room, Record, Life}
-use Rattle.answer.specs.Told.{told, succeeded}
+use Rattle.answer.specs.Told.{Told, told, succeeded}
 use Rattle.text.specs.Lines.{Lines, all, textAt, rangeAt, readLines}
-use Rattle.keys.specs.Settings.{table}
+use Rattle.keys.specs.Settings.{tableOf}
 use Rattle.settings.specs.declared.Settings.{Settings}
-use Rattle.settings.specs.Relations.{relation}
-use Rattle.settings.specs.Read.{standard, concluded, related, readText}
-use Rattle.settings.specs.Write.{written}
+use Rattle.settings.specs.Relations.{relation, related}
+use Rattle.settings.specs.Standard.{standard}
+use Rattle.editions.specs.Read.{editionOf, laidOut, tested, concluded, readText}
+use Rattle.editions.specs.Write.{written}
 use Rattle.board.specs.declared.Board.{Board as BoardValue}
 use Rattle.board.specs.Fresh.{freshOf}
 use Rattle.board.specs.Block.{answerOf, blockOf}
@@ -26,7 +30,7 @@ numbered : (a : Answer) → told a .number ≤ 8
 numbered Done = omega arith
 numbered (Text line) = omega arith
 numbered (Range line) = omega arith
-numbered (Relation which) = omega arith
+numbered (Relation which controller) = omega arith
 numbered Board = omega arith
 numbered Length = omega arith
 numbered (Room needed) = omega arith
@@ -46,19 +50,26 @@ module _ (b : BoardValue) (log rows : List ℕ) (e : succeeded (blockOf b log ro
   unfolding blockOf
   block-rows = rw stopped
 
-related-refused : (s : Settings) (k : ℕ) → succeeded (related s k .answer) ≡ false → related s k .settings ≡ standard
-related-refused s zero e = absurd (false≢true (sym e))
-related-refused s (suc k) e = refl
+tested-refused : (s : Settings) (a : Told) → succeeded (tested s a .answer) ≡ false → tested s a .settings ≡ standard
+tested-refused s a e =
+    ⊎-elim
+    (λ (ok : succeeded a ≡ true). absurd (false≢true (sym (rw ok at e) ∙ ok)))
+    (λ (off : succeeded a ≡ false). rw off)
+    (either (succeeded a))
 
-concluded-refused : (l : Lines) → succeeded (concluded l .answer) ≡ false → concluded l .settings ≡ standard
-concluded-refused (textAt n) e = refl
-concluded-refused (rangeAt n) e = refl
-concluded-refused (all vs []) e = related-refused (record { values = vs }) (relation (record { values = vs })) e
-concluded-refused (all vs (b ∷ t)) e = refl
+concluded-refused : (n : ℕ) (l : Lines) → succeeded (concluded n l .answer) ≡ false → concluded n l .settings ≡ standard
+concluded-refused n (textAt i) e = refl
+concluded-refused n (rangeAt i) e = refl
+concluded-refused n (all ns []) e = tested-refused (laidOut n ns) (related (relation (laidOut n ns))) e
+concluded-refused n (all ns (b ∷ t)) e = refl
 
 reading-refused : (text : List ℕ) → succeeded (readText text .answer) ≡ false → readText text .settings ≡ standard
 unfolding readText
-reading-refused text e = concluded-refused (readLines table [] text) e
+reading-refused text e =
+    ⊎-elim
+    (λ (none : eqb (editionOf text) 0 ≡ true). rw none)
+    (λ (some : eqb (editionOf text) 0 ≡ false). rw some (concluded-refused (editionOf text) (readLines (tableOf (editionOf text)) [] text) (rw some at e)))
+    (either (eqb (editionOf text) 0))
 
 pub refusals : Refusals
 unfolding written reported freshOf

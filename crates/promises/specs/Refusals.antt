@@ -7,8 +7,9 @@ use mathlib.Core.List.{List}
 use Rattle.answer.specs.declared.Answer.{Answer}
 use Rattle.answer.specs.Told.{told, succeeded}
 use Rattle.settings.specs.declared.Settings.{Settings}
-use Rattle.settings.specs.Read.{standard, readText}
-use Rattle.settings.specs.Write.{written}
+use Rattle.settings.specs.Standard.{standard}
+use Rattle.editions.specs.Read.{readText}
+use Rattle.editions.specs.Write.{written}
 use Rattle.board.specs.declared.Board.{Board}
 use Rattle.board.specs.Fresh.{freshBoard, freshOf}
 use Rattle.board.specs.Block.{blockOf}

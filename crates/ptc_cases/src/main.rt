@@ -10,7 +10,7 @@ ghost use Rattle.ptc.specs.support.Room.{Room};
 
 fn standard_plan() -> Plan {
     let s = Settings::standard();
-    let at = s.schedule();
+    let at = s.schedule(0);
     let waits = s.waits();
     let gap = s.gap();
     Plan {

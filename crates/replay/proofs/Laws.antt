@@ -5,11 +5,15 @@ use mathlib.Core.Bool.{true, false}
 use mathlib.Core.List.{List}
 use Prim.Native.Nat.{ℕ, zero, suc, _+_}
 use native.Mathlib.Nat.{zero-add, suc-add}
+use lib.ListN.{take}
 use Rattle.answer.specs.Told.{told, succeeded}
 use Rattle.settings.specs.declared.Settings.{Settings}
-use Rattle.settings.specs.declared.Read.{Read}
-use Rattle.settings.specs.Read.{standard, readText, readOut}
+use Rattle.settings.specs.Standard.{standard}
 use Rattle.settings.proofs.Standard.{standard-checks}
+use Rattle.editions.specs.declared.Read.{Read}
+use Rattle.editions.specs.Read.{readText, readOut}
+use Rattle.editions.specs.support.Prefix.{textMost}
+use Rattle.editions.proofs.Prefix.{read-by-start}
 use Rattle.board.specs.declared.Board.{Board}
 use Rattle.board.specs.declared.Made.{Made}
 use Rattle.board.specs.Fresh.{freshOf, MadeOut, madeOut}
@@ -26,6 +30,11 @@ module _ (text : List ℕ) (r : Read) (is : readOut r ≡ readText text) (m : Ma
       → madeOut (record { answer = r .answer; board = m .board }) ≡ openedOf text
   unfolding openedOf freshOf
   opened-refused d s std made = rw (← is, d, ap (λ (o : MadeOut). o .board) made, std, standard-checks)
+
+-- the first bytes decide what a text opens
+pub opened-by-start : (t : List ℕ) → openedOf (take textMost t) ≡ openedOf t
+unfolding openedOf
+opened-by-start t = rw (read-by-start t)
 
 -- ---- the blocks
 

@@ -4,7 +4,8 @@ use mathlib.Core.List.{List, _++_}
 use lib.ListN.{length, take, drop}
 use Rattle.laws.specs.Base.{if}
 use Rattle.answer.specs.Told.{succeeded, DONE}
-use Rattle.settings.specs.Read.{standard, readText}
+use Rattle.settings.specs.Standard.{standard}
+use Rattle.editions.specs.Read.{readText}
 use Rattle.board.specs.declared.Board.{Board}
 use Rattle.board.specs.Fresh.{freshBoard, MadeOut, freshOf}
 use Rattle.board.specs.Block.{RanOut, blockOf}

@@ -13,7 +13,7 @@ ghost use Rattle.replay.specs.Replay.{openedOf, blocksIn, inBlocks};
 pub fn opened(text: &[u8]) -> Made
     ensures { λ r. ⌜ madeOut r ≡ openedOf (now (text .entry)) ⌝ }
 {
-    let read = Settings::read(text);
+    let read = editions::read_text(text);
     let a = read.answer;
     if a.is_done() {
         return Board::fresh(read.settings);

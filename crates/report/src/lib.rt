@@ -12,9 +12,9 @@ ghost use Rattle.settings.specs.Names.{slotOf};
 ghost use Rattle.report.specs.Report.{commonValues, blockValues, controllerText, reportText, reportOut, reported};
 
 // Where the report's keys begin in the table, its common ones and those of a block.
-const COMMON: usize = 71;
+const COMMON: usize = 160;
 
-const BLOCK: usize = 75;
+const BLOCK: usize = 164;
 
 fn common_values(b: Board) -> [u64; 4]
     ensures { λ r. ⌜ r ≡ commonValues b ⌝ }

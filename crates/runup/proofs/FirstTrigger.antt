@@ -6,7 +6,7 @@ use mathlib.Core.List.{List, [], _∷_}
 use Prim.Native.Nat.{ℕ, suc}
 use Rattle.throttle.proofs.Windows.{none-told}
 use Rattle.board.specs.declared.Board.{Board}
-use Rattle.board.specs.Crossing.{rowCrossed}
+use Rattle.board.specs.Crossing.{crossingRowBy}
 use Rattle.board.specs.Run.{stepped, rowOf}
 use Rattle.runup.specs.Crossings.{crossingWith, tells, started}
 use Rattle.runup.proofs.Opened.{opened}
@@ -21,7 +21,7 @@ believing = stepped (stepped started (asking 0)) (asking 1)
 
 -- in them no more is sent than the codes of every orbit
 begun : (left : ℕ) → tells asking (suc (suc left)) 0 started ≡ tells asking left 2 believing
-unfolding opened tells rowOf rowCrossed
+unfolding opened tells rowOf crossingRowBy
 begun left = refl
 
 unmarked : Follows believing (steadyUnder false)

@@ -10,10 +10,10 @@ use lib.ListN.{getD, length, replicate}
 use Rattle.laws.specs.Base.{if, one, highest, mapI, tabulate}
 use Rattle.laws.proofs.Bools.{one-le}
 use Rattle.settings.specs.Names.{orbitOf, rulesOf, warnBlocksOf}
-use Rattle.settings.specs.Read.{standard}
+use Rattle.settings.specs.Standard.{standard}
 use Rattle.status.specs.Class.{ready, warning, classOf, counted}
 use Rattle.status.specs.Codes.{codeAt}
-use Rattle.status.specs.Merge.{member, vote, merged, classes}
+use Rattle.status.specs.Merge.{memberBy, voteBy, mergedBy, classes, classesBy}
 use Rattle.steady.specs.declared.Held.{Held}
 use Rattle.steady.specs.Steady.{steady, steadyByte, believedOf}
 use Rattle.steady.specs.Held.{nextHeld}
@@ -28,7 +28,7 @@ use Rattle.ptc.specs.declared.Scene.{Scene}
 use Rattle.records.specs.Rows.{crossingRow, carries}
 use Rattle.board.specs.declared.Board.{Board}
 use Rattle.kit.specs.Kit.{planOf}
-use Rattle.board.specs.Crossing.{withPtcs, turnIn, sceneOf, heldIn, classesIn, passedOn, boardCrossed, rowCrossed}
+use Rattle.board.specs.Crossing.{withPtcs, turnIn, sceneOf, sceneBy, heldIn, classesIn, passedOn, crossedBy, crossingRowBy}
 use Rattle.eight.specs.Eight.{ptcOf, byteOf, shownOf, clockOf}
 use Rattle.board.specs.Run.{stepped, rowOf}
 use Rattle.runup.specs.Crossings.{codesUnder, crossingWith, tells, later}
@@ -60,20 +60,20 @@ sceneAfter b past =
     record { number = numberOf (b .clock) false; holder = turnIn b false .holder; norm = free false; low = free true }
 
 -- of such a crossing, by what all eight see, their classes and the requests: f of each, the row, the next board and what is kept after it
-abbrev eightBy : {A : Type 0} → (Plan → Scene → List ℕ → ℕ → ℕ → Ptc → A) → Board → Scene → List ℕ → ℕ → List A
-eightBy f b scene cls requests = mapI (f (planOf (b .settings)) scene cls requests) 0 (b .ptcs)
+abbrev eightSeeing : {A : Type 0} → (Plan → Scene → List ℕ → ℕ → ℕ → Ptc → A) → Board → Scene → List ℕ → ℕ → List A
+eightSeeing f b scene cls requests = mapI (λ k. f (planOf (b .settings) k) scene cls requests k) 0 (b .ptcs)
 
-abbrev rowBy : Board → Scene → List ℕ → ℕ → List ℕ
-rowBy b scene cls requests = crossingRow (eightBy byteOf b scene cls requests) (eightBy shownOf b scene cls requests)
+abbrev rowSeeing : Board → Scene → List ℕ → ℕ → List ℕ
+rowSeeing b scene cls requests = crossingRow (eightSeeing byteOf b scene cls requests) (eightSeeing shownOf b scene cls requests)
 
-abbrev nextBy : Board → Scene → List ℕ → Held → ℕ → Board
-nextBy b scene cls held requests =
-    let bytes = eightBy byteOf b scene cls requests in
-    passedOn (withPtcs b (eightBy ptcOf b scene cls requests)) (clockOf (orbitOf (b .settings)) (b .clock) false bytes) (turnIn b false) held (carries bytes)
+abbrev nextSeeing : Board → Scene → List ℕ → Held → ℕ → Board
+nextSeeing b scene cls held requests =
+    let bytes = eightSeeing byteOf b scene cls requests in
+    passedOn (withPtcs b (eightSeeing ptcOf b scene cls requests)) (clockOf (orbitOf (b .settings)) (b .clock) false bytes) (turnIn b false) held (carries bytes)
 
-abbrev pastBy : Board → Scene → List ℕ → ℕ → Past → Bool → Past
-pastBy b scene cls requests past warn =
-    record { carried = warn; believed = believedNow past warn; marks = one (carries (eightBy byteOf b scene cls requests)) ∷ past .marks }
+abbrev pastSeeing : Board → Scene → List ℕ → ℕ → Past → Bool → Past
+pastSeeing b scene cls requests past warn =
+    record { carried = warn; believed = believedNow past warn; marks = one (carries (eightSeeing byteOf b scene cls requests)) ∷ past .marks }
 
 -- a board of standard settings of which held codes and ring tell what the walk keeps
 pub record Follows (b : Board) (past : Past) : Type 0 where
@@ -98,14 +98,14 @@ believed-same false true true = refl
 believed-same false false true = refl
 
 classes-same : (warn : Bool) → classes standard (codesUnder warn) ≡ replicate 8 (if warn warning ready)
-unfolding classes tabulate merged highest vote member counted classOf codeAt standard
+unfolding classesBy tabulate mergedBy highest voteBy memberBy counted classOf codeAt standard
 classes-same true = refl
 classes-same false = refl
 
 -- one crossing
 module _ {b : Board} {past : Past} (f : Follows b past) (warn : Bool) (requests : ℕ) where
   scene-same : sceneOf b false ≡ sceneAfter b past
-  unfolding sceneOf
+  unfolding sceneBy
   scene-same =
       let near : Near (rulesOf (b .settings)) = rw (f .std) near-standard in
       let same = free-told (rulesOf (b .settings)) near (warnBlocksOf (b .settings)) (b .marks) (b .clock .crossings) (past .marks) (f .told) in
@@ -118,21 +118,21 @@ module _ {b : Board} {past : Past} (f : Follows b past) (warn : Bool) (requests 
   known : classesIn b (crossingWith warn requests) ≡ classesNow past warn
   known = rw (f .std, held-same) (classes-same (believedNow past warn))
 
-  row-same : rowOf b (crossingWith warn requests) ≡ rowBy b (sceneAfter b past) (classesNow past warn) requests
-  unfolding rowOf rowCrossed
-  row-same = ap₂ (λ (scene : Scene) (cls : List ℕ). rowBy b scene cls requests) scene-same known
+  row-same : rowOf b (crossingWith warn requests) ≡ rowSeeing b (sceneAfter b past) (classesNow past warn) requests
+  unfolding rowOf crossingRowBy
+  row-same = ap₂ (λ (scene : Scene) (cls : List ℕ). rowSeeing b scene cls requests) scene-same known
 
-  next-same : stepped b (crossingWith warn requests) ≡ nextBy b (sceneAfter b past) (classesNow past warn) (heldNow past warn) requests
-  unfolding stepped boardCrossed
+  next-same : stepped b (crossingWith warn requests) ≡ nextSeeing b (sceneAfter b past) (classesNow past warn) (heldNow past warn) requests
+  unfolding stepped crossedBy
   next-same =
-      ap₂ (λ (scene : Scene) (cls : List ℕ). nextBy b scene cls (heldIn b (crossingWith warn requests)) requests) scene-same known
-      ∙ ap (λ (held : Held). nextBy b (sceneAfter b past) (classesNow past warn) held requests) held-same
+      ap₂ (λ (scene : Scene) (cls : List ℕ). nextSeeing b scene cls (heldIn b (crossingWith warn requests)) requests) scene-same known
+      ∙ ap (λ (held : Held). nextSeeing b (sceneAfter b past) (classesNow past warn) held requests) held-same
 
-  follows-on : Follows (nextBy b (sceneAfter b past) (classesNow past warn) (heldNow past warn) requests)
-      (pastBy b (sceneAfter b past) (classesNow past warn) requests past warn)
+  follows-on : Follows (nextSeeing b (sceneAfter b past) (classesNow past warn) (heldNow past warn) requests)
+      (pastSeeing b (sceneAfter b past) (classesNow past warn) requests past warn)
   unfolding clockOf tickedOf
   follows-on =
-      let carried = carries (eightBy byteOf b (sceneAfter b past) (classesNow past warn) requests) in
+      let carried = carries (eightSeeing byteOf b (sceneAfter b past) (classesNow past warn) requests) in
       record {
         std = f .std;
         carried = refl;
@@ -149,8 +149,8 @@ module _ (warn : ℕ → Bool) (asks : ℕ → ℕ) where
   walk (suc left) k b past =
       let scene = sceneAfter b past in
       let cls = classesNow past (warn k) in
-      let byte = getD (rowBy b scene cls (asks k)) 0 0 in
-      let rest = walk left (suc k) (nextBy b scene cls (heldNow past (warn k)) (asks k)) (pastBy b scene cls (asks k) past (warn k)) in
+      let byte = getD (rowSeeing b scene cls (asks k)) 0 0 in
+      let rest = walk left (suc k) (nextSeeing b scene cls (heldNow past (warn k)) (asks k)) (pastSeeing b scene cls (asks k) past (warn k)) in
       if (eqb byte 0 || (eqb byte 1 || eqb byte 11)) rest (k ∷ byte ∷ rest)
 
   pub walk-same : (left k : ℕ) {b : Board} {past : Past} → Follows b past → tells (λ n. crossingWith (warn n) (asks n)) left k b ≡ walk left k b past
@@ -165,7 +165,7 @@ module _ (warn : ℕ → Bool) (asks : ℕ → ℕ) where
   walked (suc left) k b past =
       let scene = sceneAfter b past in
       let cls = classesNow past (warn k) in
-      walked left (suc k) (nextBy b scene cls (heldNow past (warn k)) (asks k)) (pastBy b scene cls (asks k) past (warn k))
+      walked left (suc k) (nextSeeing b scene cls (heldNow past (warn k)) (asks k)) (pastSeeing b scene cls (asks k) past (warn k))
 
   pub walked-same : (left k : ℕ) {b : Board} {past : Past} → Follows b past → later (λ n. crossingWith (warn n) (asks n)) left k b ≡ walked left k b past
   unfolding later walked

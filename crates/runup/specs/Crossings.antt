@@ -5,7 +5,7 @@ use Prim.Native.Nat.{ℕ, zero, suc}
 use lib.Dec.{eqb}
 use lib.ListN.{getD, replicate}
 use Rattle.laws.specs.Base.{if}
-use Rattle.settings.specs.Read.{standard}
+use Rattle.settings.specs.Standard.{standard}
 use Rattle.board.specs.declared.Board.{Board}
 use Rattle.board.specs.Run.{stepped, rowOf}
 use Rattle.board.specs.Fresh.{freshBoard}

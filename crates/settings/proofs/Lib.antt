@@ -1,6 +1,5 @@
-pub mod Lines
-mod Writing
-mod Deciding
-pub mod RoundTrip
+mod Stamps
+mod Ranges
+pub mod Passed
 pub mod Bounds
 pub mod Standard

@@ -1,6 +1,5 @@
 pub mod Names
 pub mod Relations
 pub mod Check
-pub mod Read
-pub mod Write
+pub mod Standard
 pub mod support

@@ -1,5 +1,5 @@
--- Document 01, "Settings text": the values by name. With the methods of `src/names.rt`, the only place that says which is which.
-use Prim.Native.Nat.{ℕ, _+_}
+-- Documents 01, "Settings text", and 02, P2: the values by name. With the methods of `src/names.rt`, the only place that says which is which.
+use Prim.Native.Nat.{ℕ, _+_, _*_, _%_}
 use mathlib.Core.Bool.{Bool}
 use mathlib.Core.List.{List}
 use lib.Dec.{eqb}
@@ -12,7 +12,7 @@ use Rattle.settings.specs.declared.names.Ignores.{Ignores}
 use Rattle.settings.specs.declared.names.Waits.{Waits}
 use Rattle.settings.specs.declared.names.Schedule.{Schedule}
 
--- the value of the line after n others
+-- the value of the line after the edition's and n others
 abbrev pub after : Settings → ℕ → ℕ
 after s n = getD (s .values) n 0
 
@@ -45,25 +45,29 @@ waitsOf s = record {
 abbrev pub slotOf : Settings → ℕ → ℕ
 slotOf s k = after s (20 + k)
 
-abbrev pub scheduleOf : Settings → Schedule
-scheduleOf s = record {
-  bc0 = after s 28;
-  te = after s 29;
-  resync = after s 30;
-  hard = after s 31;
-  ec0 = after s 32;
-  oc0 = after s 33;
-  start = after s 34;
-  stop = after s 35;
-  gap = after s 36;
-  wte = after s 37;
-  cal = after s 38;
+-- document 02, P2: controller k's schedule. k is below 8; only so that it means something for any number it counts modulo 8
+abbrev pub timesAt : ℕ → ℕ
+timesAt k = 28 + 11 * (k % 8)
+
+abbrev pub scheduleOf : Settings → ℕ → Schedule
+scheduleOf s k = record {
+  bc0 = after s (timesAt k);
+  te = after s (timesAt k + 1);
+  resync = after s (timesAt k + 2);
+  hard = after s (timesAt k + 3);
+  ec0 = after s (timesAt k + 4);
+  oc0 = after s (timesAt k + 5);
+  start = after s (timesAt k + 6);
+  stop = after s (timesAt k + 7);
+  gap = after s (timesAt k + 8);
+  wte = after s (timesAt k + 9);
+  cal = after s (timesAt k + 10);
 }
 
--- the eleven `at_` values, as a list
-abbrev pub timesOf : Settings → List ℕ
-timesOf s = take 11 (drop 28 (s .values))
+-- its eleven numbers, as a list
+abbrev pub timesOf : Settings → ℕ → List ℕ
+timesOf s k = take 11 (drop (28 + 11 * k) (s .values))
 
 -- the controller of partition p, 8 for none
 abbrev pub partOf : Settings → ℕ → ℕ
-partOf s p = after s (39 + p)
+partOf s p = after s (116 + p)

@@ -144,22 +144,24 @@ impl crate::Settings {
         self.values[20 + k]
     }
 
-    pub fn schedule(self) -> Schedule
-        ensures { λ r. ⌜ r ≡ scheduleOf self ⌝ }
+    // Controller k's eleven numbers, one after the other.
+    pub fn schedule(self, k: usize) -> Schedule
+        ensures { λ r. ⌜ r ≡ scheduleOf self k ⌝ }
     {
         let v = self.values;
+        let a = 28 + 11 * (k % 8);
         Schedule {
-            bc0: v[28],
-            te: v[29],
-            resync: v[30],
-            hard: v[31],
-            ec0: v[32],
-            oc0: v[33],
-            start: v[34],
-            stop: v[35],
-            gap: v[36],
-            wte: v[37],
-            cal: v[38],
+            bc0: v[a],
+            te: v[a + 1],
+            resync: v[a + 2],
+            hard: v[a + 3],
+            ec0: v[a + 4],
+            oc0: v[a + 5],
+            start: v[a + 6],
+            stop: v[a + 7],
+            gap: v[a + 8],
+            wte: v[a + 9],
+            cal: v[a + 10],
         }
     }
 
@@ -168,6 +170,6 @@ impl crate::Settings {
         requires { ⌜ p < 32 ⌝ }
         ensures { λ r. ⌜ r ≡ partOf self p ⌝ }
     {
-        self.values[39 + p]
+        self.values[116 + p]
     }
 }

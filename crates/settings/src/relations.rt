@@ -1,14 +1,27 @@
-// The five relations between the values (document 01, "Settings text").
+// The five relations between the values (documents 01, "Settings text", and 02, P2).
 use crate::Settings;
 use crate::names::Gap;
 use crate::names::Rule;
 use crate::names::Rules;
 use crate::names::Schedule;
+use answer::Answer;
 ghost use mathlib.Core.Path.{_≡_};
-ghost use Prim.Native.Nat.{_+_, _<_};
-ghost use lib.ListN.{length, drop, getD};
-ghost use Rattle.laws.specs.Base.{if};
-ghost use Rattle.settings.specs.Relations.{below, absent, distinct, gapInside, cycleInOrder, lowFits, lowsFit, relation};
+ghost use mathlib.Core.Bool.{true};
+ghost use Prim.Native.Nat.{_+_};
+ghost use lib.Dec.{ltb};
+ghost use lib.ListN.{length};
+ghost use Rattle.laws.specs.Base.{if, firstNot};
+ghost use Rattle.answer.specs.Told.{told};
+ghost use Rattle.settings.specs.Names.{orbitOf, scheduleOf, timesOf};
+ghost use Rattle.settings.specs.Relations.{below, distinct, gapInside, cycleInOrder, lowFits, lowsFit, fault, held, relation, related};
+ghost use Rattle.settings.specs.Check.{outOfRange};
+ghost use Rattle.settings.specs.support.Stamps.{places, Fits, Lower};
+
+// What fails first: the relation and the controller. Relation 0 is none.
+pub struct Fault {
+    pub relation: usize,
+    pub controller: usize,
+}
 
 fn all_below(xs: &[u32], m: u32) -> bool
     ensures { λ r. ⌜ r ≡ below m (now (xs .entry)) ⌝ }
@@ -23,40 +36,67 @@ fn all_below(xs: &[u32], m: u32) -> bool
     true
 }
 
-// Whether the element at a place stands nowhere after it.
-fn not_after(xs: &[u32], at: usize) -> bool
-    requires { ⌜ at < length (now xs) ⌝ }
-    ensures { λ r. ⌜ r ≡ absent (getD (now (xs .entry)) at 0) (drop (at + 1) (now (xs .entry))) ⌝ }
+// Marks the numbers with the stamp, the last first, until one has it already. No number has it before.
+fn stamp_all(seen: &mut [u8], times: &[u32], stamp: u8) -> bool
+    requires { ⌜ (length (now seen) ≡ places) × Fits (now times) × Lower stamp (now seen) ⌝ }
+    ensures { λ r. ⌜ (r ≡ distinct (now (times .entry))) × (r ≡ true → Lower (stamp + 1) (now (seen .exit))) ⌝ }
 {
-    let x = xs[at];
-    let mut i = at + 1;
-    while i < xs.len() {
-        if x == xs[i] {
+    let mut i = times.len();
+    while 0 < i {
+        i -= 1;
+        let x = times[i] as usize;
+        if seen[x] == stamp {
             return false;
         }
-        i += 1;
+        seen[x] = stamp;
     }
     true
 }
 
-fn all_distinct(xs: &[u32]) -> bool
-    ensures { λ r. ⌜ r ≡ distinct (now (xs .entry)) ⌝ }
+fn no_fault() -> Fault
+    ensures { λ r. ⌜ r ≡ fault 0 0 ⌝ }
 {
-    let mut i = 0;
-    while i < xs.len() {
-        if !not_after(xs, i) {
-            return false;
-        }
-        i += 1;
+    Fault {
+        relation: 0,
+        controller: 0,
     }
-    true
 }
 
-// The later answer where this relation holds, and its own number where it fails.
-fn held(ok: bool, number: usize, later: usize) -> usize
-    ensures { λ r. ⌜ r ≡ if ok later number ⌝ }
+// The later answer where this relation holds.
+fn held(ok: bool, number: usize, later: Fault) -> Fault
+    ensures { λ r. ⌜ r ≡ held ok number later ⌝ }
 {
-    if ok { later } else { number }
+    if ok {
+        return later;
+    }
+    Fault {
+        relation: number,
+        controller: 0,
+    }
+}
+
+// The later answer where no controller was found, which is 8.
+fn each(k: usize, number: usize, later: Fault) -> Fault
+    ensures { λ r. ⌜ r ≡ if (ltb k 8) (fault number k) later ⌝ }
+{
+    if k < 8 {
+        return Fault {
+            relation: number,
+            controller: k,
+        };
+    }
+    later
+}
+
+impl Fault {
+    pub fn told(self) -> Answer
+        ensures { λ r. ⌜ told r ≡ related self ⌝ }
+    {
+        if self.relation == 0 {
+            return Answer::Done;
+        }
+        Answer::Relation(self.relation, self.controller)
+    }
 }
 
 impl Rule {
@@ -94,25 +134,62 @@ impl Rules {
 }
 
 impl Settings {
-    // The number of the first relation that fails, or 0.
-    pub(crate) fn first_relation(self) -> usize
+    // The first controller with a number that is not below the orbit, or 8.
+    fn first_late(self) -> usize
+        ensures { λ r. ⌜ r ≡ firstNot (λ k. below (orbitOf self) (timesOf self k)) 8 0 ⌝ }
+    {
+        let v = self.values;
+        let orbit = v[0];
+        let mut k = 0;
+        while k < 8 {
+            if !all_below(&v[28 + 11 * k..39 + 11 * k], orbit) {
+                return k;
+            }
+            k += 1;
+        }
+        8
+    }
+
+    // The first with the same number twice, or 8. Each controller has a stamp of its own, so one table serves all eight.
+    fn first_doubled(self) -> usize
+        requires { ⌜ outOfRange self ≡ 0 ⌝ }
+        ensures { λ r. ⌜ r ≡ firstNot (λ k. distinct (timesOf self k)) 8 0 ⌝ }
+    {
+        let v = self.values;
+        let mut seen = [0u8; 4096];
+        let mut k = 0;
+        while k < 8 {
+            if !stamp_all(&mut seen, &v[28 + 11 * k..39 + 11 * k], k as u8 + 1) {
+                return k;
+            }
+            k += 1;
+        }
+        8
+    }
+
+    // The first whose cycle is out of order, or 8.
+    fn first_disordered(self) -> usize
+        ensures { λ r. ⌜ r ≡ firstNot (λ k. cycleInOrder (scheduleOf self k)) 8 0 ⌝ }
+    {
+        let mut k = 0;
+        while k < 8 {
+            if !self.schedule(k).cycle_in_order() {
+                return k;
+            }
+            k += 1;
+        }
+        8
+    }
+
+    // The first relation that fails, and its first controller.
+    pub fn first_relation(self) -> Fault
+        requires { ⌜ outOfRange self ≡ 0 ⌝ }
         ensures { λ r. ⌜ r ≡ relation self ⌝ }
     {
-        let orbit = self.orbit();
-        let gap = self.gap().is_inside(orbit);
-        let v = self.values;
-        let inside = all_below(&v[28..39], orbit);
-        let apart = all_distinct(&v[28..39]);
-        let cycle = self.schedule().cycle_in_order();
-        let limits = self.rules().lows_fit();
-        held(
-            gap,
-            1,
-            held(
-                inside,
-                2,
-                held(apart, 3, held(cycle, 4, held(limits, 5, 0))),
-            ),
-        )
+        let gap = self.gap().is_inside(self.orbit());
+        let limits = held(self.rules().lows_fit(), 5, no_fault());
+        let order = each(self.first_disordered(), 4, limits);
+        let apart = each(self.first_doubled(), 3, order);
+        held(gap, 1, each(self.first_late(), 2, apart))
     }
 }

@@ -1,6 +1,7 @@
-// Runs the settings' reader, writer and check on cases that document 01 names, and prints what each answers.
-// Standard input has three lines for each text that is read: the case's name, a part of the standard text, and what is put
-// in its place. In these a `/` stands for a newline and a `^` for a carriage return.
+// Runs the settings' reader, writer and check on cases that documents 01 and 02 name, and prints what each answers.
+// Standard input has a text of the first edition, then three lines for each text that is read: the case's name, a part of a text, and
+// what is put in its place; the text is the first edition's where the name begins with a 1, else the standard one. In all of these a `/`
+// stands for a newline and a `^` for a carriage return.
 use answer::Answer;
 use cases::after;
 use cases::line_end;
@@ -79,28 +80,30 @@ fn replaced(text: &[u8], old: &[u8], new: &[u8], out: &mut [u8]) -> usize
     put(out, b, &text[at + old.len()..])
 }
 
-// Reads the standard text with `new` for the first `old`. The buffers are lent, since a part of one is read.
-fn read_edited(name: &[u8], old: &[u8], new: &[u8], standard: &mut [u8], text: &mut [u8]) {
-    let s = Settings::standard();
-    s.write(standard);
-    let n = s.text_length();
-    if standard.len() < n {
-        return;
-    }
-    let m = replaced(&standard[..n], old, new, text);
-    let r = Settings::read(&text[..m]);
+// Reads a text with `new` for the first `old`. The buffer is lent, since a part of it is read.
+fn read_edited(name: &[u8], base: &[u8], old: &[u8], new: &[u8], text: &mut [u8]) {
+    let m = replaced(base, old, new, text);
+    let r = editions::read_text(&text[..m]);
     let a = r.answer;
     say_case(name, a);
 }
 
-fn read_case(name: &[u8], old: &[u8], new: &[u8]) {
+fn read_case(name: &[u8], base: &[u8], old: &[u8], new: &[u8]) {
     let mut from = [0u8; 64];
     let mut to = [0u8; 64];
-    let mut standard = [0u8; 1024];
-    let mut text = [0u8; 1024];
+    let mut text = [0u8; 4096];
     let n = decoded(old, &mut from);
     let m = decoded(new, &mut to);
-    read_edited(name, &from[..n], &to[..m], &mut standard, &mut text);
+    read_edited(name, base, &from[..n], &to[..m], &mut text);
+}
+
+// A case whose name begins with a 1 is of the first edition.
+fn read_named(name: &[u8], old: &[u8], new: &[u8], first: &[u8], newest: &[u8]) {
+    if text::starts_with(name, 0, b"1 ") {
+        read_case(name, first, old, new);
+        return;
+    }
+    read_case(name, newest, old, new);
 }
 
 // How many bytes are other than 7, which no settings text has.
@@ -119,13 +122,13 @@ fn changed(out: &[u8]) -> u64 {
 // The standard settings with another value on a line.
 fn with(line: usize, value: u32) -> Settings {
     let mut s = Settings::standard();
-    if line < 1 {
+    if line < 2 {
         return s;
     }
-    if 71 < line {
+    if 149 < line {
         return s;
     }
-    s.values[line - 1] = value;
+    s.values[line - 2] = value;
     s
 }
 
@@ -134,7 +137,7 @@ fn write_part(name: &[u8], s: Settings, out: &mut [u8], room: usize) {
     if out.len() < room {
         return;
     }
-    let a = s.write(&mut out[..room]);
+    let a = editions::write_text(s, &mut out[..room]);
     say_case(name, a);
     say_number(b"  bytes changed: ", changed(out));
     say(b"\n");
@@ -142,7 +145,7 @@ fn write_part(name: &[u8], s: Settings, out: &mut [u8], room: usize) {
 
 // Writes the standard settings with another value on a line.
 fn write_case(name: &[u8], line: usize, value: u32, room: usize) {
-    let mut out = [7u8; 1024];
+    let mut out = [7u8; 4096];
     let s = with(line, value);
     write_part(name, s, &mut out, room);
 }
@@ -154,46 +157,69 @@ fn check_case(name: &[u8], line: usize, value: u32) {
     say_case(name, a);
 }
 
-fn read_cases(input: &[u8]) {
-    let mut at = 0;
+fn read_cases(input: &[u8], from: usize, first: &[u8], newest: &[u8])
+    requires { ⌜ from ≤ length (now input) ⌝ }
+{
+    let mut at = from;
     while at < input.len() {
         let a = line_end(input, at);
         let old = after(input, a);
         let b = line_end(input, old);
         let new = after(input, b);
         let c = line_end(input, new);
-        read_case(&input[at..a], &input[old..b], &input[new..c]);
+        read_named(&input[at..a], &input[old..b], &input[new..c], first, newest);
         at = after(input, c);
     }
 }
 
+// The first line is a text of the first edition; that of the newest is the standard one.
+fn reads(input: &[u8]) {
+    let mut first = [0u8; 1024];
+    let mut newest = [0u8; 4096];
+    let a = line_end(input, 0);
+    let m = decoded(&input[..a], &mut first);
+    let s = Settings::standard();
+    editions::write_text(s, &mut newest);
+    let n = editions::text_length(s);
+    if 4096 < n {
+        return;
+    }
+    read_cases(input, after(input, a), &first[..m], &newest[..n]);
+}
+
 fn writes() {
-    write_case(b"write with room", 5, 25, 1024);
-    write_case(b"write with just room", 5, 25, 723);
-    write_case(b"write one byte short", 5, 25, 722);
-    write_case(b"write without a buffer", 5, 25, 0);
-    write_case(b"write r2_period 64", 5, 64, 1024);
-    write_case(b"write orbit 3563, RELATION before ROOM", 1, 3563, 0);
-    write_case(b"write orbit 4097, RANGE before RELATION", 1, 4097, 1024);
+    write_case(b"write with room", 6, 25, 4096);
+    write_case(b"write with just room", 6, 25, 1724);
+    write_case(b"write one byte short", 6, 25, 1723);
+    write_case(b"write without a buffer", 6, 25, 0);
+    write_case(b"write r2_period 64", 6, 64, 4096);
+    write_case(b"write orbit 3563, RELATION before ROOM", 2, 3563, 0);
+    write_case(b"write orbit 4097, RANGE before RELATION", 2, 4097, 4096);
+    write_case(b"write at6_cal 3600", 106, 3600, 4096);
 }
 
 fn checks() {
-    check_case(b"check r2_period 63", 5, 63);
-    check_case(b"check r2_period 64", 5, 64);
-    check_case(b"check part31 8", 71, 8);
-    check_case(b"check part31 9", 71, 9);
-    check_case(b"check orbit 63, RANGE before RELATION", 1, 63);
-    check_case(b"check orbit 64", 1, 64);
-    check_case(b"check at_stop 3564", 36, 3564);
-    check_case(b"check at_stop 500", 36, 500);
-    check_case(b"check at_wte 3400", 38, 3400);
-    check_case(b"check r4_norm 1", 12, 1);
+    check_case(b"check r2_period 63", 6, 63);
+    check_case(b"check r2_period 64", 6, 64);
+    check_case(b"check part31 8", 149, 8);
+    check_case(b"check part31 9", 149, 9);
+    check_case(b"check orbit 63, RANGE before RELATION", 2, 63);
+    check_case(b"check orbit 64", 2, 64);
+    check_case(b"check at0_stop 3564", 37, 3564);
+    check_case(b"check at0_stop 500", 37, 500);
+    check_case(b"check at0_wte 3400", 39, 3400);
+    check_case(b"check at7_cal 3564", 117, 3564);
+    check_case(b"check at7_cal 4096", 117, 4096);
+    check_case(b"check at4_bc0 3400", 74, 3400);
+    check_case(b"check at2_te 2999", 53, 2999);
+    check_case(b"check at1_cal 3491", 51, 3491);
+    check_case(b"check r4_norm 1", 13, 1);
 }
 
 fn main() {
-    let mut input = io::buffer();
+    let mut input = io::large_buffer();
     let n = io::read_full(STDIN_FILENO, &mut input);
-    read_cases(&input[..n]);
+    reads(&input[..n]);
     writes();
     checks();
 }

@@ -1,22 +1,13 @@
 -- A log read in pieces: which bytes a piece has no contract can say, but what is done with them is `run_blocks`.
 use Prim.Native.Nat.{ℕ}
-use mathlib.Core.Bool.{Bool, true, false}
-use mathlib.Core.Path.{_≡_}
+use mathlib.Core.Bool.{Bool, false}
 use mathlib.Core.List.{List}
 use lib.Dec.{ltb}
-use lib.IntN.{ℤ, pos}
-use lib.Signed.{ltZ}
-use Rattle.io.specs.Counts.{Counts}
 use Rattle.laws.specs.Base.{if}
 use Rattle.answer.specs.Told.{Told, succeeded, DONE}
 use Rattle.board.specs.declared.Board.{Board}
 use Rattle.board.specs.Block.{RanOut}
 use Rattle.replay.specs.Replay.{blocksIn, inBlocks}
-
--- n bytes that were read, and whether reading failed after them: all lie in the piece, and a file that could not be opened, a
--- negative one, is empty
-abbrev pub ReadFrom : ℤ → List ℕ → ℕ → Bool → Type 0
-ReadFrom file piece n failed = Counts n piece × (ltZ file (pos 0) ≡ true → (n ≡ 0) × (failed ≡ false))
 
 -- the blocks of a piece over a board; where reading failed nothing is run
 abbrev pub pieceRun : Bool → Board → List ℕ → List ℕ → RanOut

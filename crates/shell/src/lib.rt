@@ -4,23 +4,19 @@ use answer::Answer;
 use board::Board;
 use board::Made;
 use board::Ran;
+use files::Got;
+use files::read_piece;
 ghost use lib.ListN.{take};
 ghost use mathlib.Core.Path.{_≡_};
 ghost use Rattle.answer.specs.Told.{told};
 ghost use Rattle.board.specs.Block.{ranOut};
 ghost use Rattle.shell.specs.Opened.{OfSomeText};
-ghost use Rattle.shell.specs.Pieces.{ReadFrom, pieceRun, isFull};
+ghost use Rattle.files.specs.Read.{ReadFrom};
+ghost use Rattle.shell.specs.Pieces.{pieceRun, isFull};
 ghost use Rattle.shell.specs.Logs.{OfSomeLog};
 
 // The bytes of 40 blocks.
 pub const PIECE: usize = 61440;
-
-// How many bytes were read, and whether a read failed after them. A read that a signal interrupts before it moves a byte has
-// failed.
-pub struct Got {
-    pub count: usize,
-    pub failed: bool,
-}
 
 // A piece of the log, and what its blocks gave: nothing is run where reading failed.
 pub struct Step {
@@ -34,43 +30,12 @@ pub struct Opened {
     pub made: Made,
 }
 
-// Reads until the piece is full or the file ends. A file that could not be opened, a negative one, reads as empty.
-pub fn read_piece(file: i32, piece: &mut [u8]) -> Got
-    ensures { λ r. ⌜ ReadFrom file (now (piece .exit)) (r .«count») (r .failed) ⌝ }
-{
-    let mut count: usize = 0;
-    if file < 0 {
-        return Got {
-            count: 0,
-            failed: false,
-        };
-    }
-    while count < piece.len() {
-        let got = libc::read(file, &mut piece[count..]);
-        if got < 0 {
-            return Got {
-                count: count,
-                failed: true,
-            };
-        }
-        let more = io::count(got, &piece[count..]);
-        if more == 0 {
-            break;
-        }
-        count += more;
-    }
-    Got {
-        count: count,
-        failed: false,
-    }
-}
-
-// 1,024 bytes are read. A good text has at most 965, and what a longer one gets is decided by those 1,024: proved as
-// `opened-by-start` (replay/proofs/Prefix.antt).
+// 4,096 bytes are read. A good text of any edition has fewer, and what a longer one gets is decided by those 4,096: proved as
+// `opened-by-start` (replay/proofs/Laws.antt).
 pub fn open_board() -> Opened
     ensures { λ r. ⌜ OfSomeText (r .made) ⌝ }
 {
-    let mut text = [0u8; 1024];
+    let mut text = [0u8; 4096];
     let file = os::open_read(b"board.set");
     let got = read_piece(file, &mut text);
     let n = got.count;

@@ -19,7 +19,7 @@ use Rattle.settings.specs.declared.names.Ignores.{Ignores}
 use Rattle.settings.specs.Names.{ignoresOf}
 use Rattle.status.specs.Class.{bad, disconnected, emulator, classOf, counted}
 use Rattle.status.specs.Codes.{codeAt}
-use Rattle.status.specs.Merge.{member, vote, merged}
+use Rattle.status.specs.Merge.{member, memberBy, vote, voteBy, merged, mergedBy}
 use Rattle.status.specs.support.Merger.{ownerOf, half, rankAt, mergerOf}
 
 -- the table's halves are of 16 places
@@ -54,7 +54,7 @@ module _ (s : Settings) where
       getD-tabulate (rankAt (ignoresOf s)) 0 32 (half i + c) 0 inside ∙ rw zero-add (rank-at (ignoresOf s) i c h)
 
   pub owned : (k n : ℕ) → n < 40 → member s k n ≡ eqb (getD (mergerOf s .owners) n 0) k
-  unfolding mergerOf member ownerOf
+  unfolding mergerOf memberBy ownerOf
   owned k n h =
       rw (getD-tabulate (ownerOf s) 0 40 n 0 h, zero-add)
       (⊎-elim
@@ -63,11 +63,11 @@ module _ (s : Settings) where
       (lt-or-ge n 32))
 
 pub merge-same : (s s' : Settings) (a b : List ℕ) (k : ℕ) → ((i : ℕ) → i < 41 → vote s a k i ≡ vote s' b k i) → merged s a k ≡ merged s' b k
-unfolding merged
+unfolding mergedBy
 merge-same s s' a b k h = order-free (vote s a k) (vote s' b k) 41 41 (λ i l. (i, l, h i l)) (λ i l. (i, l, sym (h i l)))
 
 same-vote : (s : Settings) (a b : List ℕ) (k i : ℕ) → codeAt a i ≡ codeAt b i → vote s a k i ≡ vote s b k i
-unfolding vote
+unfolding voteBy
 same-vote s a b k i e = rw e
 
 -- a member that is left out changes nothing
@@ -93,9 +93,9 @@ counted-low g i c =
     if-most ((g .disc && eqb d disconnected) || (g .bad && eqb d bad)) 0 d 7 (omega arith) (class-low i c)
 
 vote-low : (s : Settings) (codes : List ℕ) (k i : ℕ) → vote s codes k i ≤ 7
-unfolding vote
+unfolding voteBy
 vote-low s codes k i = if-most (member s k i) _ _ 7 (counted-low (ignoresOf s) i (codeAt codes i)) (omega arith)
 
 pub merge-low : (s : Settings) (codes : List ℕ) (k : ℕ) → merged s codes k ≤ 7
-unfolding merged
+unfolding mergedBy
 merge-low s codes k = highest-most (vote s codes k) 7 41 (λ i l. vote-low s codes k i)

@@ -2,19 +2,20 @@
 -- Trailing zeros make a number an odd multiple of a power of two, so every bit below is 0; all eight bits of 255 are set.
 use mathlib.Core.Path.{_≡_, refl, ap, sym, _∙_}
 use mathlib.Core.Logic.{_⊎_, inl, inr, ⊎-elim}
-use mathlib.Core.Bool.{Bool, true, false, not, _&&_, false≢true}
+use mathlib.Core.Bool.{Bool, true, false, _&&_, false≢true}
 use mathlib.Core.List.{List}
 use Prim.Native.Nat.{ℕ, zero, suc, _+_, _-_, _*_, _/_, _%_, _^_, _≤_, _<_}
 use native.Mathlib.Nat.{pow-suc, zero-div, mul-assoc, mul-mod-left, mul-le-mul-right}
 use native.Mathlib.Omega.{arith}
-use borrow.Author.Tests.{eqb-true, eqb-false, not-true}
+use borrow.Author.Tests.{eqb-true, eqb-false, ne-eqb}
 use lib.Count.{trailingZeros, under}
 use lib.Dec.{eqb}
 use lib.ListN.{getD}
 use lib.Pow.{pow-mono, pow-add, shl-shr, shr-shr, shr-lt}
 use Rattle.laws.proofs.Bools.{both, if-has}
 use Rattle.laws.proofs.Tests.{either, same-or-not, lt-or-ge}
-use Rattle.settings.specs.declared.names.Schedule.{Schedule}
+use Rattle.settings.specs.declared.Settings.{Settings}
+use Rattle.settings.specs.Names.{scheduleOf}
 use Rattle.states.specs.Moves.{orbitCode}
 use Rattle.ptc.specs.declared.Ptc.{Ptc}
 use Rattle.ptc.specs.declared.Plan.{Plan}
@@ -22,8 +23,10 @@ use Rattle.ptc.specs.declared.Scene.{Scene}
 use Rattle.ptc.specs.support.Rest.{atRest}
 use Rattle.ptc.proofs.Rest.{rest-crossed, rest-silent}
 use Rattle.records.specs.Records.{askedIn}
+use Rattle.kit.specs.support.Laid.{busyOf, plainIn}
+use Rattle.kit.proofs.Busy.{plain-apart}
 use Rattle.eight.specs.Eight.{actOf}
-use Rattle.still.specs.support.Still.{plainNumber, dueOf, nextDue}
+use Rattle.still.specs.support.Still.{dueOf, nextDue}
 
 -- w is an odd multiple of 2 ^ t
 record Odd (w t : ℕ) : Type 0 where
@@ -118,49 +121,49 @@ all-due (suc (suc (suc (suc (suc (suc zero)))))) h = refl
 all-due (suc (suc (suc (suc (suc (suc (suc zero))))))) h = refl
 all-due (suc (suc (suc (suc (suc (suc (suc (suc j)))))))) h = absurd (omega arith)
 
-pub record Passed (still : Bool) (at : Schedule) (number requests j : ℕ) : Type 0 where
+pub record Passed (still : Bool) (busy : List ℕ) (number requests j : ℕ) : Type 0 where
   pub rests : still ≡ true
-  pub plain : plainNumber at number ≡ true
+  pub plain : plainIn busy number ≡ true
   pub silent : askedIn requests j ≡ false
 
-module _ (still : Bool) (at : Schedule) (number requests : ℕ) where
-  pub passed : (j : ℕ) → j < 8 → askedIn (dueOf still at number requests) j ≡ false → Passed still at number requests j
+module _ (still : Bool) (busy : List ℕ) (number requests : ℕ) where
+  pub passed : (j : ℕ) → j < 8 → askedIn (dueOf still busy number requests) j ≡ false → Passed still busy number requests j
   unfolding dueOf
   passed j h e =
       ⊎-elim
-      (λ (t : still && plainNumber at number ≡ true).
-      let w = both still (plainNumber at number) t in
+      (λ (t : still && plainIn busy number ≡ true).
+      let w = both still (plainIn busy number) t in
       record { rests = w .0; plain = w .1; silent = rw t at e })
-      (λ (f : still && plainNumber at number ≡ false). absurd (false≢true (sym (rw f at e) ∙ all-due j h)))
-      (either (still && plainNumber at number))
+      (λ (f : still && plainIn busy number ≡ false). absurd (false≢true (sym (rw f at e) ∙ all-due j h)))
+      (either (still && plainIn busy number))
 
-  pub due-moving : still ≡ false → 255 ≡ dueOf still at number requests
+  pub due-moving : still ≡ false → 255 ≡ dueOf still busy number requests
   unfolding dueOf
   due-moving e = rw e
 
-  pub due-plain : still ≡ true → plainNumber at number ≡ true → requests ≡ dueOf still at number requests
+  pub due-plain : still ≡ true → plainIn busy number ≡ true → requests ≡ dueOf still busy number requests
   unfolding dueOf
   due-plain e f = rw (e, f)
 
-  pub due-dated : still ≡ true → plainNumber at number ≡ false → 255 ≡ dueOf still at number requests
+  pub due-dated : still ≡ true → plainIn busy number ≡ false → 255 ≡ dueOf still busy number requests
   unfolding dueOf
   due-dated e f = rw (e, f)
 
-  pub due-low : requests < 256 → dueOf still at number requests < 256
+  pub due-low : requests < 256 → dueOf still busy number requests < 256
   unfolding dueOf
-  due-low h = if-has (λ (n : ℕ). n < 256) (still && plainNumber at number) requests 255 (λ e. h) (λ e. omega arith)
+  due-low h = if-has (λ (n : ℕ). n < 256) (still && plainIn busy number) requests 255 (λ e. h) (λ e. omega arith)
 
-plain-code : (at : Schedule) (number : ℕ) → plainNumber at number ≡ true → orbitCode at number ≡ 0
-unfolding plainNumber orbitCode
-plain-code at number e =
-    let n = both (not (eqb number 0)) _ e in
-    let o = both (not (eqb number (at .bc0))) (not (eqb number (at .gap))) (n .1) in
-    rw (not-true (eqb number (at .bc0)) (o .0), not-true (eqb number (at .gap)) (o .1))
+-- at a plain number no controller sends a code of its own accord
+pub plain-code : (s : Settings) (number k : ℕ) → plainIn (busyOf s) number ≡ true → k < 8 → orbitCode (scheduleOf s k) number ≡ 0
+unfolding orbitCode
+plain-code s number k e h =
+    let apart = plain-apart s number e k h in
+    rw (ne-eqb number (scheduleOf s k .bc0) (apart .0), ne-eqb number (scheduleOf s k .gap) (apart .1))
 
 -- a controller at rest that does not ask is left as it is, and sends nothing
 pub passed-over : (plan : Plan) (scene : Scene) (classes : List ℕ) (requests k : ℕ) (p : Ptc) → atRest (getD classes k 0) p ≡ true
-    → plainNumber (plan .at) (scene .number) ≡ true → askedIn requests k ≡ false
+    → orbitCode (plan .at) (scene .number) ≡ 0 → askedIn requests k ≡ false
     → actOf plan scene classes requests k p ≡ record { ptc = p; code = 0; sent = false; cal = false }
 unfolding actOf
 passed-over plan scene classes requests k p rests plain silent =
-    rest-crossed plan scene k (getD classes k 0) _ p rests ∙ rw silent (rest-silent plan scene k p ∙ rw (plain-code (plan .at) (scene .number) plain))
+    rest-crossed plan scene k (getD classes k 0) _ p rests ∙ rw silent (rest-silent plan scene k p ∙ rw plain)

@@ -36,12 +36,12 @@ neither : (a b : Bool) → a || b ≡ false → (a ≡ false) × (b ≡ false)
 neither true b e = absurd (false≢true (sym e))
 neither false b e = (refl, e)
 
-module _ (plan : Plan) (rules : Rules) (blocks : Bool) (sight : Sight) (marks : List ℕ) (clock : Clock) (ps : List Ptc) where
+module _ (plans : ℕ → Plan) (rules : Rules) (blocks : Bool) (sight : Sight) (marks : List ℕ) (clock : Clock) (ps : List Ptc) where
   abbrev holding : Ptc
   holding = getD ps (sight .turn .holder % 8) freshPtc
 
   abbrev seen : Scene
-  seen = sceneFor plan rules blocks holding sight marks clock
+  seen = sceneFor (plans (sight .turn .holder % 8)) rules blocks holding sight marks clock
 
   -- the whole throttle
   abbrev pub wholeScene : Scene
@@ -66,7 +66,7 @@ module _ (plan : Plan) (rules : Rules) (blocks : Bool) (sight : Sight) (marks : 
   -- the holder's own
   abbrev movesTo : ℕ → ℕ
   movesTo k =
-      movedOf (plan .at) (plan .waits) k (numberOf clock (sight .marker)) (getD (sight .classes) k 0) (getD ps k freshPtc .state) (getD ps k freshPtc .wait) .state
+      movedOf (plans k .at) (plans k .waits) k (numberOf clock (sight .marker)) (getD (sight .classes) k 0) (getD ps k freshPtc .state) (getD ps k freshPtc .wait) .state
 
   own-free : (k : ℕ) → k ≡ sight .turn .holder → k < 8 → asks ≡ true → freeIn seen (movesTo k) ≡ freeIn wholeScene (movesTo k)
   unfolding sceneFor asks
@@ -83,15 +83,15 @@ module _ (plan : Plan) (rules : Rules) (blocks : Bool) (sight : Sight) (marks : 
       (n .0, eqb-true _ _ (not-false _ (n .1)))
 
   pub scene-seen : (k : ℕ) → k < 8
-      → actOf plan seen (sight .classes) (sight .requests) k (getD ps k freshPtc)
-      ≡ actOf plan wholeScene (sight .classes) (sight .requests) k (getD ps k freshPtc)
+      → actOf (plans k) seen (sight .classes) (sight .requests) k (getD ps k freshPtc)
+      ≡ actOf (plans k) wholeScene (sight .classes) (sight .requests) k (getD ps k freshPtc)
   unfolding actOf sceneFor
   scene-seen k h =
       ⊎-elim
       (λ (e : k ≡ sight .turn .holder).
       ⊎-elim
-      (λ (t : asks ≡ true). moved-scene plan seen wholeScene k (getD (sight .classes) k 0) _ (getD ps k freshPtc) numbers holders (own-free k e h t))
-      (λ (f : asks ≡ false). unasked-scene plan seen wholeScene k _ _ _ numbers holders (inr (idle k e h f)))
+      (λ (t : asks ≡ true). moved-scene (plans k) seen wholeScene k (getD (sight .classes) k 0) _ (getD ps k freshPtc) numbers holders (own-free k e h t))
+      (λ (f : asks ≡ false). unasked-scene (plans k) seen wholeScene k _ _ _ numbers holders (inr (idle k e h f)))
       (either asks))
-      (λ (n : k ≡ sight .turn .holder → ⊥). unasked-scene plan seen wholeScene k _ _ _ numbers holders (inl (ne-eqb k _ n)))
+      (λ (n : k ≡ sight .turn .holder → ⊥). unasked-scene (plans k) seen wholeScene k _ _ _ numbers holders (inl (ne-eqb k _ n)))
       (same-or-not k (sight .turn .holder))

@@ -7,7 +7,6 @@ use ptc::Ptc;
 use ptc::Scene;
 use records::RECORD;
 use settings::Rules;
-use settings::Schedule;
 ghost use mathlib.Core.Path.{_≡_};
 ghost use mathlib.Core.Bool.{true, not, _||_};
 ghost use Prim.Native.Nat.{ℕ, _+_, _*_, _%_, _<_, _≤_};
@@ -20,7 +19,8 @@ ghost use Rattle.throttle.specs.Rules.{Sensible};
 ghost use Rattle.clock.specs.support.Room.{SlotRoom};
 ghost use Rattle.states.specs.Moves.{movedOf};
 ghost use Rattle.records.specs.Records.{recAt, codesIn, askedIn};
-ghost use Rattle.still.specs.support.Still.{plainNumber, dueOf, nextDue};
+ghost use Rattle.kit.specs.support.Laid.{plainIn};
+ghost use Rattle.still.specs.support.Still.{dueOf, nextDue};
 ghost use Rattle.still.specs.support.Sight.{sightOf, sceneFor, firstSight};
 
 // What is told from one record to the next, and what this crossing brings.
@@ -35,20 +35,20 @@ pub struct Sight {
     pub due: u8,
 }
 
-fn is_plain_number(at: Schedule, number: u32) -> bool
-    ensures { λ r. ⌜ r ≡ plainNumber at number ⌝ }
+fn is_plain_number(busy: &[u8; 4096], number: u32) -> bool
+    ensures { λ r. ⌜ r ≡ plainIn (now (busy .entry)) number ⌝ }
 {
-    number != 0 && (number != at.bc0 && number != at.gap)
+    busy[(number % 4096) as usize] == 0
 }
 
 // Those that ask, where no other moves or sends: all are at rest, the codes go on, and nothing falls on the number.
-fn due(still: bool, at: Schedule, number: u32, requests: u8) -> u8
-    ensures { λ r. ⌜ r ≡ dueOf still at number requests ⌝ }
+fn due(still: bool, busy: &[u8; 4096], number: u32, requests: u8) -> u8
+    ensures { λ r. ⌜ r ≡ dueOf still (now (busy .entry)) number requests ⌝ }
 {
     if !still {
         return 255;
     }
-    if is_plain_number(at, number) {
+    if is_plain_number(busy, number) {
         requests
     } else {
         255
@@ -99,7 +99,7 @@ impl Sight {
     // What record i, a crossing, brings, and the held codes after it. Whether all eight are at rest under the classes before it is told.
     pub fn next(
         self,
-        at: Schedule,
+        busy: &[u8; 4096],
         table: &[u64; 656],
         slots: &[u32; 8],
         clock: Clock,
@@ -110,7 +110,7 @@ impl Sight {
         i: usize,
     ) -> Sight
         requires { ⌜ (24 * i + 24 ≤ length (now log)) × (Coded (codesIn (recAt (now log) i))) × (Coded (now carried)) × (Coded (now believed)) × (self .classes ≡ laneClasses (now table) (now believed)) × (self .firm ≡ true → now believed ≡ now carried) × (SlotRoom (now slots)) × (self .turn .holder ≤ 8) ⌝ }
-        ensures { λ r. ⌜ (r ≡ sightOf at (now (table .entry)) (now (slots .entry)) clock (self .turn) calm (now (carried .entry)) (now (believed .entry)) (recAt (now (log .entry)) i)) × (now (believed .exit) ≡ believedOf (now (carried .entry)) (now (believed .entry)) (codesIn (recAt (now (log .entry)) i))) × (now (carried .exit) ≡ codesIn (recAt (now (log .entry)) i)) ⌝ }
+        ensures { λ r. ⌜ (r ≡ sightOf (now (busy .entry)) (now (table .entry)) (now (slots .entry)) clock (self .turn) calm (now (carried .entry)) (now (believed .entry)) (recAt (now (log .entry)) i)) × (now (believed .exit) ≡ believedOf (now (carried .entry)) (now (believed .entry)) (codesIn (recAt (now (log .entry)) i))) × (now (carried .exit) ≡ codesIn (recAt (now (log .entry)) i)) ⌝ }
     {
         let marker = log[RECORD * i + 1] == 1;
         let requests = log[RECORD * i + 2];
@@ -126,7 +126,7 @@ impl Sight {
             firm: news.firm,
             marker: marker,
             requests: requests,
-            due: due(plain::both(calm, news.stays), at, number, requests),
+            due: due(plain::both(calm, news.stays), busy, number, requests),
         }
     }
 }

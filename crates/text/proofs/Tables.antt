@@ -66,7 +66,7 @@ lines-written (l ∷ ls) acc t ws r n e = go (readLine (lineHead (l .key)) (l .r
     go out is e on = absurd (let z : _≡_ {A = ℕ} 0 1 = cc in omega arith)
 
 -- values that are all in range: the first is, and so are the others
-first-in : (r : Range) (rs : List Range) (v : ℕ) (vs : List ℕ) (k : ℕ) → 0 < k → firstOut (r ∷ rs) k (v ∷ vs) ≡ 0
+pub first-in : (r : Range) (rs : List Range) (v : ℕ) (vs : List ℕ) (k : ℕ) → 0 < k → firstOut (r ∷ rs) k (v ∷ vs) ≡ 0
     → (within r v ≡ true) × (firstOut rs (suc k) vs ≡ 0)
 first-in r rs v vs k some e =
     ⊎-elim
@@ -80,3 +80,11 @@ in-range-at [] vs k some e n d h = absurd (omega arith)
 in-range-at (r ∷ rs) [] k some e n d h = absurd (omega arith)
 in-range-at (r ∷ rs) (v ∷ vs) k some e zero d h = (first-in r rs v vs k some e) .0
 in-range-at (r ∷ rs) (v ∷ vs) k some e (suc n) d h = in-range-at rs vs (suc k) (omega arith) ((first-in r rs v vs k some e) .1) n d (omega arith)
+
+-- and the other way
+pub all-in-range : (rs : List Range) (vs : List ℕ) (k : ℕ) (d : Range) → length vs ≡ length rs
+    → ((n : ℕ) → n < length rs → within (getD rs n d) (getD vs n 0) ≡ true) → firstOut rs k vs ≡ 0
+all-in-range [] vs k d long each = refl
+all-in-range (r ∷ rs) [] k d long each = absurd (omega arith)
+all-in-range (r ∷ rs) (v ∷ vs) k d long each =
+    rw (each 0 (omega arith)) (all-in-range rs vs (suc k) d (omega arith) (λ n h. each (suc n) (omega arith)))

@@ -8,7 +8,7 @@ use native.Mathlib.Nat.{le-of-suc-le-suc, not-suc-le-zero}
 use native.Mathlib.Numerals.{add-one}
 use native.Mathlib.Omega.{arith}
 use lib.ListN.{length, drop, take, set, getD, length-append, drop-of-length-le}
-use lib.Seq.{drop-cons, length-take-le, take-suc-set, take-all}
+use lib.Seq.{drop-cons, length-take-le, take-suc-set}
 use Rattle.text.specs.declared.Range.{Range}
 use Rattle.text.specs.Bytes.{put}
 use Rattle.text.specs.Lines.{Entry, lineHead, lineText, linesText, taken, ill, out, within, readLine, all, textAt, rangeAt, readLines, firstOut}
@@ -32,8 +32,8 @@ module _ (ls : List Entry) (vs s : List ℕ) (at n : ℕ) (d : Entry) (inv : rea
   at-value v next e = inv ∙ rw (drop-cons ls n d more, ← e, add-one, take-suc-set vs n v known)
 
 pub at-end : (ls : List Entry) (vs s : List ℕ) (at n : ℕ) → readLines ls [] s ≡ readLines (drop n ls) (take n vs) (drop at s)
-    → length ls ≤ n → length vs ≤ n → readLines ls [] s ≡ all vs (drop at s)
-at-end ls vs s at n inv done long = inv ∙ rw (drop-of-length-le ls done, take-all n vs long)
+    → length ls ≤ n → readLines ls [] s ≡ all (take n vs) (drop at s)
+at-end ls vs s at n inv done = inv ∙ rw (drop-of-length-le ls done)
 
 -- ---- writing
 
@@ -63,12 +63,13 @@ text-within (k ∷ ks) more (v ∷ vs) h = ap (λ (t : List ℕ). lineText (line
 
 -- ---- ranges
 
-module _ (rs : List Range) (vs : List ℕ) (n : ℕ) (d : Range) (more : n < length rs) (known : n < length vs) where
-  pub out-here : within (getD rs n d) (getD vs n 0) ≡ false → firstOut (drop n rs) (n + 1) (drop n vs) ≡ n + 1
+-- line n has the number k
+module _ (rs : List Range) (vs : List ℕ) (n k : ℕ) (d : Range) (more : n < length rs) (known : n < length vs) where
+  pub out-here : within (getD rs n d) (getD vs n 0) ≡ false → firstOut (drop n rs) k (drop n vs) ≡ k
   out-here e = rw (drop-cons rs n d more, drop-cons vs n 0 known, e)
 
-  pub out-later : within (getD rs n d) (getD vs n 0) ≡ true → firstOut (drop n rs) (n + 1) (drop n vs) ≡ firstOut (drop (n + 1) rs) (n + 1 + 1) (drop (n + 1) vs)
-  out-later e = rw (drop-cons rs n d more, drop-cons vs n 0 known, e, add-one, add-one)
+  pub out-later : within (getD rs n d) (getD vs n 0) ≡ true → firstOut (drop n rs) k (drop n vs) ≡ firstOut (drop (n + 1) rs) (suc k) (drop (n + 1) vs)
+  out-later e = rw (drop-cons rs n d more, drop-cons vs n 0 known, e, add-one)
 
 pub out-none : (rs : List Range) (vs : List ℕ) (n k : ℕ) → length rs ≤ n → firstOut (drop n rs) k vs ≡ 0
 out-none rs vs n k done = rw (drop-of-length-le rs done)

@@ -22,7 +22,7 @@ use Rattle.ptc.specs.Crossing.{freeIn}
 use Rattle.records.specs.Records.{recAt}
 use Rattle.records.specs.Rows.{carries}
 use Rattle.board.specs.declared.Board.{Board}
-use Rattle.board.specs.Crossing.{sceneOf, eight}
+use Rattle.board.specs.Crossing.{sceneBy, eight}
 use Rattle.eight.specs.Eight.{byteOf}
 use Rattle.board.specs.Run.{ran}
 use Rattle.board.specs.Fresh.{freshBoard}
@@ -141,7 +141,7 @@ module _ {s : Settings} {log buffer : List ℕ} (t : Taken s log buffer) {i : �
 
   pub free-seen : (state : ℕ) → freeIn (sceneIn s log i) state
       ≡ free (rulesOf s) (warnBlocksOf s) (before .marks) (before .clock .crossings) (eqb state WARN)
-  unfolding sceneOf
+  unfolding sceneBy
   free-seen state =
       go (eqb state WARN)
       ∙ ap (λ (x : Settings). free (rulesOf x) (warnBlocksOf x) (before .marks) (before .clock .crossings) (eqb state WARN)) (own-settings s log i)

@@ -28,8 +28,8 @@ use Rattle.records.specs.Rows.{carries}
 use Rattle.records.specs.Refusal.{recordsIn}
 use Rattle.board.specs.declared.Board.{Board}
 use Rattle.eight.specs.Eight.{byteOf}
-use Rattle.board.specs.Crossing.{eight, boardCrossed}
-use Rattle.board.specs.Command.{boardCommanded}
+use Rattle.board.specs.Crossing.{eight, crossedBy}
+use Rattle.board.specs.Command.{commandedBy}
 use Rattle.board.specs.Run.{stepped, ran}
 use Rattle.board.specs.Fresh.{freshBoard}
 use Rattle.board.proofs.Keeps.{crossed-count}
@@ -68,7 +68,7 @@ module _ {s : Settings} {log buffer : List ℕ} (t : Taken s log buffer) where
 
   module _ (i : ℕ) (c : Crossing log i) where
     marks-next : before (suc i) .marks ≡ passed (before i .marks) (before i .clock .crossings) (one (carries (eight byteOf (before i) (recAt log i))))
-    unfolding ran stepped boardCrossed
+    unfolding ran stepped crossedBy
     marks-next = rw (c .kind)
 
     count-next : before (suc i) .clock .crossings ≡ before i .clock .crossings + 1
@@ -88,7 +88,7 @@ module _ {s : Settings} {log buffer : List ℕ} (t : Taken s log buffer) where
         (tells-on (b .marks) (b .clock .crossings) (sofar i) (triggersIn (rowAt rows i)) long (omega (arith, bit t c)) told)
 
   tells : (i : ℕ) → i ≤ recordsIn log → Tells (before i .marks) (before i .clock .crossings) (sofar i)
-  unfolding ran stepped boardCommanded crossingRows
+  unfolding ran stepped commandedBy crossingRows
   tells zero h = fresh-tells
   tells (suc i) h =
       let old = tells i (omega arith) in

@@ -1,4 +1,5 @@
-//! Document 01, "One crossing" and "States": the board, its number, its moves and its commands.
+//! Document 01, "One crossing" and "States", each controller by its own schedule (document 02, P2): the board, its number, its
+//! moves and its commands.
 
 use crate::merge::{merge, Merged};
 use crate::settings::*;
@@ -153,11 +154,11 @@ impl Board {
     }
 
     /// "At 0 the move happens; otherwise it falls by 1 at crossing number 0. In every state code 1 is sent at at_bc0 and 11 at
-    /// at_gap." The code that is sent is handed back; the crossings at_ are distinct, so there is one at most.
+    /// at_gap." The code that is sent is handed back; a controller's own at_ are distinct, so there is one at most.
     fn move_once(&mut self, n: usize, number: usize, merged: Merged) -> u8 {
         let of_every_state = match number {
-            _ if number == self.settings[AT_BC0] => 1,
-            _ if number == self.settings[AT_GAP] => 11,
+            _ if number == self.settings.at[n][AT_BC0] => 1,
+            _ if number == self.settings.at[n][AT_GAP] => 11,
             _ => 0,
         };
         if self.controllers[n].wait > 0 {
@@ -178,7 +179,7 @@ impl Board {
 
     /// "States": the code that is sent and the state that follows, if the controller moves.
     fn next(&self, n: usize, number: usize, merged: Merged) -> (u8, Option<usize>) {
-        let at = |line, code, to| if number == self.settings[line] { (code, Some(to)) } else { (0, None) };
+        let at = |place: usize, code, to| if number == self.settings.at[n][place] { (code, Some(to)) } else { (0, None) };
         match self.controllers[n].state {
             1 => at(AT_RESYNC, 5, 2),
             2 if merged >= Merged::OutOfSync => (0, Some(18)),

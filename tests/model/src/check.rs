@@ -1,21 +1,25 @@
 //! The model's own tests: document 01's printed case and worked figures, read with believed codes (document 02, P1), some of
-//! DESIGN's open points, and P1's own sequences of codes.
+//! DESIGN's open points, and P1's own sequences of codes. Those of P2 are in `check_editions.rs` and `check_schedules.rs`.
 
 use crate::board::{Board, Cycle};
+use crate::edition::{write, Edition};
 use crate::merge::{merge, Merged};
 use crate::program::{run, BLOCK, BYTES};
+use crate::refusal::Refusal;
 use crate::report::{report, row};
 use crate::settings::*;
 use crate::steady::{carried, Held, GTFE, INPUTS};
+use crate::{check_editions, check_schedules, edition};
 use std::process::ExitCode;
 
 const PRINTED: &str = "crossings=1\norbit=0\nbc_errors=0\nholder=0\nptc=0\nstate=0\nrequested=1\naccepted=0\nlost_state=1\n\
     lost_slot=0\nlost_gap=0\nlost_cal=0\nlost_throttle=0\ncal_requested=0\ncal_accepted=0\ncal_lost=0\nevents=0\n";
 
-type Cases = Vec<(&'static str, bool)>;
+pub type Cases = Vec<(&'static str, bool)>;
 
 pub fn check() -> ExitCode {
-    let cases = [figures(), merges(), moves(), cycles(), texts(), blocks(), sequences(), between()].concat();
+    let base = [figures(), merges(), moves(), cycles(), texts(), blocks(), sequences(), between()].concat();
+    let cases = [base, check_editions::cases(), check_schedules::cases()].concat();
     let failed: Vec<_> = cases.iter().filter(|(_, holds)| !holds).collect();
     failed.iter().for_each(|(name, _)| println!("failed: {name}"));
     println!("{} passed, {} failed", cases.len() - failed.len(), failed.len());
@@ -23,22 +27,22 @@ pub fn check() -> ExitCode {
 }
 
 /// A crossing with every code the same.
-fn crossing(marker: u8, requests: u8, code: u8) -> [u8; BYTES] {
+pub fn crossing(marker: u8, requests: u8, code: u8) -> [u8; BYTES] {
     let mut record = [code << 4 | code; BYTES];
     (record[0], record[1], record[2], record[3]) = (0, marker, requests, code);
     record
 }
 
-/// The standard settings with one line changed.
-fn with(line: usize, value: usize) -> Settings {
+/// The standard settings with one shared value changed.
+pub fn with(place: usize, value: usize) -> Settings {
     let mut settings = Settings::standard();
-    settings[line] = value;
+    settings[place] = value;
     settings
 }
 
 /// A board past its first crossing with controller 0 in the given state, the number that it expects, and the code that it
 /// believes of every input, which is the one carried last too.
-fn board(settings: Settings, state: usize, expected: usize, code: u8) -> Board {
+pub fn board(settings: Settings, state: usize, expected: usize, code: u8) -> Board {
     let mut board = Board::fresh(settings);
     (board.crossings, board.expected, board.controllers[0].state, board.held) = (10_000, expected, state, Held::all(code));
     board
@@ -55,13 +59,18 @@ fn sent(first: usize, requests: fn(usize) -> bool, code: fn(usize) -> u8) -> (Ve
 
 fn figures() -> Cases {
     let (to_250, standard): (fn(usize) -> bool, _) = (|t| t <= 250, Settings::standard());
-    let printed = run(standard.write().as_bytes(), &crossing(0, 1, 8), &mut |_, _| {}).map(|(board, _)| report(&board));
+    let printed = |edition: Edition| {
+        let outcome = run(edition.text(&standard).as_bytes(), &crossing(0, 1, 8), &mut |_, _| {});
+        outcome.map(|(board, _)| report(&board)).as_deref() == Ok(PRINTED)
+    };
+    let (in_edition_1, in_edition_2) = (printed(Edition::First), printed(Edition::Second));
     let mut started = Board::fresh(standard);
     started.command(0, 1);
     let rows = (0..7430).map(|t| (t, row(&started.record(&crossing(0, 1, 8)))[0]));
     let codes: Vec<(usize, u8)> = rows.filter(|(_, byte)| ![0, 1, 11].contains(byte)).collect();
     vec![
-        ("the printed case", printed.as_deref() == Ok(PRINTED)),
+        ("the printed case, edition 1", in_edition_1),
+        ("the printed case, edition 2", in_edition_2),
         ("READY", sent(500, to_250, |_| 8).0 == [0, 3, 25, 100, 240, 243]),
         ("WARN", sent(500, to_250, |_| 1).0 == [0, 25, 240]),
         ("WARN believed from t+4", sent(500, to_250, |t| if t < 3 { 8 } else { 1 }).0 == [0, 3, 240]),
@@ -145,27 +154,28 @@ fn cycles() -> Cases {
     ]
 }
 
+/// Document 01's own text, now edition 1.
 fn texts() -> Cases {
-    let standard = Settings::standard().write();
-    let refused = |from: &str, to: &str| Settings::read(standard.replace(from, to).as_bytes()).err();
-    let cut = |bytes: usize| Settings::read(&standard.as_bytes()[..bytes]).err();
-    let unordered = with(AT_TE, 3491).write();
+    let standard = Edition::First.text(&Settings::standard());
+    let refused = |from: &str, to: &str| edition::read(standard.replace(from, to).as_bytes()).err();
+    let cut = |bytes: usize| edition::read(&standard.as_bytes()[..bytes]).err();
+    let unordered = standard.replace("at_te=3400", "at_te=3491");
     vec![
         ("the standard text", standard.lines().count() == 71 && cut(standard.len()).is_none()),
         ("r2_period 63", refused("r2_period=25", "r2_period=63").is_none()),
-        ("r2_period 64", refused("r2_period=25", "r2_period=64") == Some((RANGE, 5))),
-        ("five digits", refused("orbit=3564", "orbit=99999") == Some((RANGE, 1))),
-        ("six digits", refused("orbit=3564", "orbit=003564") == Some((TEXT, 1))),
-        ("text that stops early", cut(0) == Some((TEXT, 1)) && cut(standard.len() - 1) == Some((TEXT, 71))),
-        ("the first faulty line decides", refused("r1_gap=2\nr2_period=25", "r1_gap=8\nr2_period=+") == Some((RANGE, 4))),
-        ("relation 4", Settings::read(unordered.as_bytes()).err() == Some((RELATION, 4))),
-        ("the tail comes before relations", Settings::read((unordered + "\n").as_bytes()).err() == Some((TEXT, 72))),
-        ("relation 2 before 4", refused("at_te=3400", "at_te=3564") == Some((RELATION, 2))),
+        ("r2_period 64", refused("r2_period=25", "r2_period=64") == Some(Refusal::Range(5))),
+        ("five digits", refused("orbit=3564", "orbit=99999") == Some(Refusal::Range(1))),
+        ("six digits", refused("orbit=3564", "orbit=003564") == Some(Refusal::Text(1))),
+        ("text that stops early", cut(0) == Some(Refusal::Text(1)) && cut(standard.len() - 1) == Some(Refusal::Text(71))),
+        ("the first faulty line decides", refused("r1_gap=2\nr2_period=25", "r1_gap=8\nr2_period=+") == Some(Refusal::Range(4))),
+        ("relation 4", edition::read(unordered.as_bytes()).err() == Some(Refusal::Relation(4, 0))),
+        ("the tail comes before relations", edition::read((unordered + "\n").as_bytes()).err() == Some(Refusal::Text(72))),
+        ("relation 2 before 4", refused("at_te=3400", "at_te=3564") == Some(Refusal::Relation(2, 0))),
     ]
 }
 
 fn blocks() -> Cases {
-    let text = Settings::standard().write().into_bytes();
+    let text = write(&Settings::standard()).into_bytes();
     let good: Vec<u8> = crossing(0, 1, 8).repeat(65);
     let mut spoilt = good.clone();
     (spoilt[3 * BYTES], spoilt[BLOCK]) = (2, 2);
@@ -173,10 +183,10 @@ fn blocks() -> Cases {
     let refused = |log: &[u8]| run(&text, log, &mut |_, _| {}).err();
     vec![
         ("no log and a whole one", refused(&[]).is_none() && refused(&good).is_none()),
-        ("a broken tail after 64 records", refused(&good[..BLOCK + 5]) == Some((LENGTH, 0))),
-        ("LENGTH before RECORD in a block", refused(&spoilt[..BLOCK - 1]) == Some((LENGTH, 0))),
-        ("RECORD in a block before the broken tail", refused(&spoilt[..BLOCK + 1]) == Some((RECORD, 3))),
-        ("the index counts within the block", refused(&late) == Some((RECORD, 0))),
+        ("a broken tail after 64 records", refused(&good[..BLOCK + 5]) == Some(Refusal::Length)),
+        ("LENGTH before RECORD in a block", refused(&spoilt[..BLOCK - 1]) == Some(Refusal::Length)),
+        ("RECORD in a block before the broken tail", refused(&spoilt[..BLOCK + 1]) == Some(Refusal::Record(3))),
+        ("the index counts within the block", refused(&late) == Some(Refusal::Record(0))),
     ]
 }
 
@@ -201,7 +211,7 @@ fn ready_then(codes: &[u8]) -> Vec<usize> {
 
 fn sequences() -> Cases {
     let mut settings = with(RECOVER_RESYNC, 0);
-    (settings[AT_BC0], settings[AT_RESYNC]) = (100, 0);
+    (settings.at[0][AT_BC0], settings.at[0][AT_RESYNC]) = (100, 0);
     let fresh_then = |codes: [u8; 2]| {
         let mut board = Board::fresh(settings.clone());
         board.command(0, 1);
@@ -232,7 +242,7 @@ fn sequences() -> Cases {
 
 /// Block ends, commands and markers between the two crossings that carry a code.
 fn between() -> Cases {
-    let text = Settings::standard().write().into_bytes();
+    let text = write(&Settings::standard()).into_bytes();
     let closing = |log: &[[u8; BYTES]]| run(&text, &log.concat(), &mut |_, _| {}).map(|(board, _)| board.held.believed);
     let over_block_end =
         |code, next| closing(&[&[crossing(0, 0, 8); 63][..], &[crossing(0, 0, code), crossing(0, 0, next)]].concat());

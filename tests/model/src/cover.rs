@@ -1,14 +1,16 @@
-//! How often a range of seeds meets each thing that document 01 names, and document 02 up to P1.
+//! How often a range of seeds meets each thing that document 01 names, and document 02 up to P2; what P2
+//! adds is counted in `cover_schedules.rs`.
 
 use crate::board::{Board, Cycle, Did, Done, THROTTLE};
+use crate::cover_schedules::Calibrations;
 use crate::generate::{generate, KINDS};
 use crate::merge::{class, ignored, members, merge, Merged};
 use crate::program::{run, BLOCK, BYTES};
-use crate::settings::{Refusal, RELATION, TEXT};
+use crate::refusal::Refusal;
 use crate::steady::{Held, INPUTS};
 
 /// Groups of rows with their items, counted by place; a dash is a place that cannot come. A group without items is a row itself.
-const GROUPS: [(&str, &str); 23] = [
+const GROUPS: [(&str, &str); 37] = [
     ("state", "0 1 2 3 4 5 6 7 8 9 10 11 12 13 14 15 16 17 18 19"),
     ("merged", "none ready warning busy out_of_sync error bad disconnected"),
     ("ignored", "bad disconnected"),
@@ -32,10 +34,24 @@ const GROUPS: [(&str, &str); 23] = [
     ("alternating", ""),
     ("disconnected", "0_then_15"),
     ("fresh", "0_decides"),
+    ("read", "- edition_1 edition_2"),
+    ("no_edition", "empty 1 02 99999 2_without_newline other"),
+    ("TEXT", "- edition_1 edition_2"),
+    ("tail", "- edition_1 edition_2"),
+    ("RANGE_shared", "- edition_1 edition_2"),
+    ("RANGE_of_schedule", "- edition_1 edition_2"),
+    ("key", "of_edition_2_in_1 of_edition_1_in_2 of_another_controller"),
+    ("relation_above_0", "- - 2 3 4"),
+    ("relation_first", "before_later_at_lower before_same_at_higher"),
+    ("edition_1_sent", "request calibration"),
+    ("own_number", "- 1 2 - - 5 6 7 - 9 10 11 - 13 calibration"),
+    ("own_number_without_slot", "- 1 - - - - - - - - - 11"),
+    ("passed", "wte_of_0 te_of_0 cal_of_0"),
+    ("calibrations", "asked_apart sent_apart at_te_of_another at_wte_of_another"),
 ];
 
-#[derive(Default)]
-struct Table([[u64; 20]; GROUPS.len()]);
+/// Counts by group and item.
+pub struct Table([[u64; 20]; GROUPS.len()]);
 
 /// The log before a record: what the board held, the records, and the place among them of the last crossing.
 struct Before {
@@ -46,27 +62,33 @@ struct Before {
 
 /// The table over the seeds of a kind, or of all kinds, or nothing for an unknown kind.
 pub fn cover(kind: &str, from: usize, to: usize) -> Option<String> {
-    let mut table = Table::default();
+    let mut table = Table([[0; 20]; GROUPS.len()]);
     for kind in KINDS.iter().filter(|known| kind == "all" || kind == **known) {
         for seed in from..=to {
             let (text, log) = generate(kind, seed)?;
             let mut before = Before { held: Held::all(0), records: 0, last_crossing: 0 };
-            let mut watch = |board: &Board, done: &Done| table.record(&mut before, board, done);
+            let mut calibrations = Calibrations::of(&text);
+            let mut watch = |board: &Board, done: &Done| {
+                table.record(&mut before, board, done);
+                table.schedules(&mut calibrations, board, done);
+            };
             if let Err(refusal) = run(&text, &log, &mut watch) {
                 table.refusal(refusal);
             }
+            table.text(&text);
+            table.apart(&calibrations);
         }
     }
     (kind == "all" || KINDS.contains(&kind)).then(|| table.rows())
 }
 
 impl Table {
-    fn add(&mut self, group: &str, item: usize) {
+    pub fn add(&mut self, group: &str, item: usize) {
         let place = GROUPS.iter().position(|(name, _)| *name == group).expect("a group of the table");
         self.0[place][item] += 1;
     }
 
-    fn add_if(&mut self, met: bool, group: &str, item: usize) {
+    pub fn add_if(&mut self, met: bool, group: &str, item: usize) {
         if met {
             self.add(group, item);
         }
@@ -84,11 +106,9 @@ impl Table {
     }
 
     fn refusal(&mut self, refusal: Refusal) {
-        self.add("refused", refusal.0);
-        match refusal {
-            (RELATION, number) => self.add("relation", number),
-            (TEXT, 72) => self.add("refused", 8),
-            _ => {}
+        self.add("refused", refusal.number());
+        if let Refusal::Relation(relation, _) = refusal {
+            self.add("relation", relation);
         }
     }
 

@@ -1,8 +1,10 @@
 //! Test cases from a seed: settings text and log, the same on every machine.
 
-use crate::damage;
+use crate::edition::Edition;
 use crate::journal::{log, Manner};
+use crate::schedules::{resync_first, schedules, standard};
 use crate::settings::*;
+use crate::{damage_log, damage_text};
 
 pub const KINDS: [&str; 5] = ["valid", "edge", "text", "log", "standard"];
 
@@ -27,28 +29,29 @@ impl Random {
     }
 }
 
-/// The settings text and the log of a seed, or nothing for an unknown kind.
+/// The settings text, in edition 1 for every third seed, and the log of a seed, or nothing for an unknown kind.
 pub fn generate(kind: &str, seed: usize) -> Option<(Vec<u8>, Vec<u8>)> {
     let place = KINDS.iter().position(|known| *known == kind)?;
     let random = &mut Random((seed * 5 + place + 1).wrapping_mul(0x9E37_79B9_7F4A_7C15) as u64 | 1);
+    let edition = if seed % 3 == 0 { Edition::First } else { Edition::Second };
     let (settings, manner, records) = match kind {
-        "valid" => (short(random), Manner::Lively, 1000 + random.below(5000)),
-        "edge" if random.once_in(5) => (long_window(random), Manner::Standard, 4000 + random.below(5000)),
-        "edge" => (edge(random), Manner::Edge, 1000 + random.below(5000)),
-        "standard" => (Settings::standard(), Manner::Standard, 8000 + random.below(4000)),
-        _ if random.once_in(3) => (Settings::standard(), Manner::Lively, 40 + random.below(300)),
-        _ => (short(random), Manner::Lively, 40 + random.below(300)),
+        "valid" => (short(random, edition), Manner::Lively, 1000 + random.below(5000)),
+        "edge" if random.once_in(5) => (long_window(random, edition), Manner::Standard, 4000 + random.below(5000)),
+        "edge" => (edge(random, edition), Manner::Edge, 1000 + random.below(5000)),
+        "standard" => (standard(random, edition), Manner::Standard, 8000 + random.below(5000)),
+        _ if random.once_in(3) => (standard(random, edition), Manner::Lively, 40 + random.below(300)),
+        _ => (short(random, edition), Manner::Lively, 40 + random.below(300)),
     };
     let log = log(random, &settings, manner, records);
     Some(match kind {
-        "text" => (damage::text(random, settings, seed), log),
-        "log" => (settings.write().into_bytes(), damage::log(random, log)),
-        _ => (settings.write().into_bytes(), log),
+        "text" => (damage_text::text(random, edition, settings, seed), log),
+        "log" => (edition.text(&settings).into_bytes(), damage_log::log(random, log)),
+        _ => (edition.text(&settings).into_bytes(), log),
     })
 }
 
 /// Good settings on a short orbit, so that a short log comes round to everything.
-fn short(random: &mut Random) -> Settings {
+fn short(random: &mut Random, edition: Edition) -> Settings {
     let mut settings = Settings::standard();
     let orbit = 64 + random.below(137).min(random.below(137));
     settings[ORBIT] = orbit;
@@ -69,7 +72,10 @@ fn short(random: &mut Random) -> Settings {
     }
     let first = random.below(orbit - 22);
     let crossings = if random.once_in(3) { first..first + 22 } else { 0..orbit };
-    place_at(random, &mut settings, crossings.collect());
+    settings.at = schedules(random, edition, &[crossings.collect()]);
+    if random.once_in(4) {
+        resync_first(&mut settings);
+    }
     let (way, one) = (random.below(5), random.below(9));
     for p in 0..32 {
         settings[PART0 + p] = [one, p % 8, p / 4, random.below(9), random.pick(&[0, one, 8])][way];
@@ -91,41 +97,9 @@ fn short_rules(random: &mut Random, settings: &mut Settings) {
     }
 }
 
-/// Eleven distinct crossings out of the rising ones given. Those of the calibration cycle rise, and often follow each other at
-/// once, since only then rule 1 may refuse its trigger.
-fn place_at(random: &mut Random, settings: &mut Settings, mut crossings: Vec<usize>) {
-    let bound = crossings.len() - 2;
-    let mut places = [random.below(bound), random.below(bound), random.below(bound)];
-    places.sort();
-    if random.once_in(2) {
-        places = [places[0]; 3];
-    }
-    for (line, place) in [AT_WTE, AT_TE, AT_CAL].into_iter().zip(places) {
-        settings[line] = crossings.remove(place);
-    }
-    for line in (AT_BC0..=AT_GAP).filter(|&line| line != AT_TE) {
-        settings[line] = crossings.swap_remove(random.below(crossings.len()));
-    }
-    if random.once_in(4) {
-        resync_first(settings);
-    }
-}
-
-/// at_resync at crossing 0 and no wait after it: in the second crossing of the log state 2 looks at the merge, when codes of the
-/// fresh board are still believed. The line that was at crossing 0 takes the old place; at_wte cannot, since at_te follows it.
-fn resync_first(settings: &mut Settings) {
-    let resync = settings[AT_RESYNC];
-    match (AT_BC0..=AT_CAL).find(|&line| settings[line] == 0) {
-        Some(AT_WTE) => return,
-        Some(line) => (settings[line], settings[AT_RESYNC]) = (resync, 0),
-        None => settings[AT_RESYNC] = 0,
-    }
-    settings[RECOVER_RESYNC] = 0;
-}
-
 /// Good settings at the ends of their ranges; the rest as for a short orbit.
-fn edge(random: &mut Random) -> Settings {
-    let mut settings = short(random);
+fn edge(random: &mut Random, edition: Edition) -> Settings {
+    let mut settings = short(random, edition);
     let orbit = random.pick(&[64, 4096]);
     let one = random.below(orbit);
     settings[ORBIT] = orbit;
@@ -138,34 +112,41 @@ fn edge(random: &mut Random) -> Settings {
         let mixed = random.pick(&[0, 1, 255, 255]);
         settings[SLOT0 + n] = [0, 255 * usize::from(n == lone), mixed, mixed, settings[SLOT0 + n]][slots];
     }
-    let crossings = match random.below(4) {
-        0 => (0..11).collect(),
-        1 => (orbit - 11..orbit).collect(),
-        2 => (0..6).chain(orbit - 6..orbit).collect(),
-        _ => (0..64).collect(),
-    };
-    place_at(random, &mut settings, crossings);
+    let sets = [edge_crossings(random, orbit), edge_crossings(random, orbit)];
+    settings.at = schedules(random, edition, &sets);
+    if random.once_in(4) {
+        resync_first(&mut settings);
+    }
     if random.once_in(4) {
         (0..32).for_each(|p| settings[PART0 + p] = 8);
     }
     settings
 }
 
+fn edge_crossings(random: &mut Random, orbit: usize) -> Vec<usize> {
+    match random.below(4) {
+        0 => (0..11).collect(),
+        1 => (orbit - 11..orbit).collect(),
+        2 => (0..6).chain(orbit - 6..orbit).collect(),
+        _ => (0..64).collect(),
+    }
+}
+
 /// Each limit at an end of its range or as it was; a limit of 0 refuses everything, so it comes seldom.
 fn edge_rules(random: &mut Random, settings: &mut Settings) {
-    let (lines, wide) = (lines(), random.once_in(3));
+    let (lines, wide) = (shared_lines(), random.once_in(3));
     settings[R1_GAP] = random.pick(&[2, 7, 7]);
     for period in [R2_PERIOD, R3_PERIOD, R4_PERIOD] {
-        let (norm, low, most) = (settings[period + 1], settings[period + 2], lines[period].high);
+        let (norm, low, most) = (settings[period + 1], settings[period + 2], lines[period + 1].high);
         let limits = [(most, most), (0, 0), (norm, low), (norm, low), (norm, 0), (norm, norm), (most, low)];
-        settings[period] = random.pick(&[lines[period - 1].low, lines[period - 1].high]);
+        settings[period] = random.pick(&[lines[period].low, lines[period].high]);
         (settings[period + 1], settings[period + 2]) = if wide { limits[0] } else { random.pick(&limits) };
     }
 }
 
 /// Rule 4 alone with its longest window; the log has to be steady, or the window's end never comes.
-fn long_window(random: &mut Random) -> Settings {
-    let mut settings = short(random);
+fn long_window(random: &mut Random, edition: Edition) -> Settings {
+    let mut settings = short(random, edition);
     settings[SLOT0] = 255;
     (settings[R2_PERIOD + 1], settings[R3_PERIOD + 1]) = (15, 63);
     (settings[R4_PERIOD], settings[R4_PERIOD + 1], settings[R4_PERIOD + 2]) = (2047, 1 + random.below(9), 1);

@@ -3,7 +3,7 @@
 use crate::board::{Board, Cycle};
 use crate::generate::Random;
 use crate::program::{BLOCK, BYTES};
-use crate::settings::{Settings, AT_BC0, AT_CAL};
+use crate::settings::{Settings, SLOT0};
 use crate::steady::{GTFE, INPUTS};
 
 #[rustfmt::skip]
@@ -49,7 +49,7 @@ const READY: [u8; BYTES] = {
 
 pub fn log(random: &mut Random, settings: &Settings, manner: Manner, records: usize) -> Vec<u8> {
     let good_markers = random.pick(&[0, 1, 1, 2]);
-    let last_at = (AT_BC0..=AT_CAL).map(|line| settings[line]).max().unwrap_or(0);
+    let last_at = settings.at.concat().into_iter().max().unwrap_or(0);
     let (records, latest) = match manner {
         Manner::Edge if random.once_in(3) => (records + 2 * last_at, 4096),
         Manner::Edge => (records + 2 * last_at, last_at + 1 + random.below(20)),
@@ -88,7 +88,7 @@ impl Journal<'_> {
         self.command(0, 6);
         self.command(0, 1);
         for n in 1..8 {
-            if !self.random.once_in(4) {
+            if n == self.board.holder || !self.random.once_in(4) {
                 self.command(n, 1);
             }
         }
@@ -202,7 +202,7 @@ impl Journal<'_> {
         let n = if holds { self.board.holder } else { self.random.below(8) };
         let any = 1 + self.random.below(6) as u8;
         let command = match self.board.controllers[n].state {
-            _ if self.manner == Manner::Standard && n == 0 => 5,
+            _ if self.manner == Manner::Standard && (n == 0 || holds) => 5,
             _ if self.random.once_in(12) => any,
             0 => 1,
             7 | 8 => self.random.pick(&[5, 5, 5, 5, 5, 5, 5, 5, 5, 5, 5, 5, 5, 5, 1, 2, 3, 4]),
@@ -215,20 +215,24 @@ impl Journal<'_> {
         self.command(n, command);
     }
 
-    /// Runs of markers let long waits and slots pass, and take the slot away while a cycle is open.
+    /// Runs of markers let long waits and slots pass, take the slot away while a cycle is open, and hand it on to a controller
+    /// whose cycle is armed, so that one log has the calibrations of several.
     fn marker(&mut self, bad_markers: usize) -> bool {
         if self.markers_to_come > 0 {
             self.markers_to_come -= 1;
             return true;
         }
-        let Board { controllers, orbits_left, holder, expected, .. } = &self.board;
+        let Board { settings, controllers, orbits_left, holder, expected, .. } = &self.board;
         let wait = controllers.iter().map(|controller| controller.wait).max().unwrap_or(0);
         let open = controllers.iter().any(|controller| controller.cycle == Cycle::Open);
+        let armed = |n: usize| n != *holder && settings[SLOT0 + n] > 0 && controllers[n].cycle == Cycle::Armed;
+        let awaited = *orbits_left <= 20 && (0..8).any(armed) && controllers[*holder].cycle == Cycle::None;
         let long_slot = *orbits_left > 99 && (7..=8).contains(&controllers[*holder].state);
         match self.manner {
             Manner::Edge if wait > 4 && self.random.once_in(30) => self.markers_to_come = wait,
             Manner::Edge if long_slot && self.random.once_in(700) => self.markers_to_come = *orbits_left,
             Manner::Edge | Manner::Lively if open && self.random.once_in(60) => self.markers_to_come = 21,
+            Manner::Edge | Manner::Lively if awaited && self.random.once_in(80) => self.markers_to_come = *orbits_left,
             _ => {}
         }
         match *expected {

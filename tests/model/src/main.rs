@@ -1,14 +1,21 @@
-//! An independent model of document 01 (the trigger desk) and document 02 up to P1, to test the product against. See README.md.
+//! An independent model of document 01 (the trigger desk) and document 02 up to P2, to test the product against. See README.md.
 
 mod board;
 mod check;
+mod check_editions;
+mod check_schedules;
 mod cover;
-mod damage;
+mod cover_schedules;
+mod damage_log;
+mod damage_text;
+mod edition;
 mod generate;
 mod journal;
 mod merge;
 mod program;
+mod refusal;
 mod report;
+mod schedules;
 mod settings;
 mod steady;
 mod trigger;
@@ -17,7 +24,8 @@ use std::io::Write;
 use std::process::ExitCode;
 use std::{env, fs};
 
-const USAGE: &str = "model report DIR | rows DIR | generate KIND SEED DIR | cover KIND|all FROM TO | check";
+const USAGE: &str =
+    "model report DIR | rows DIR | edition DIR | refusal DIR | generate KIND SEED DIR | cover KIND|all FROM TO | check";
 
 fn main() -> ExitCode {
     let arguments: Vec<String> = env::args().skip(1).collect();
@@ -25,6 +33,8 @@ fn main() -> ExitCode {
     let output = match arguments[..] {
         ["report", dir] => Some(run(dir, |board, _| report::report(board).into_bytes())),
         ["rows", dir] => Some(run(dir, |_, rows| rows)),
+        ["edition", dir] => Some(program::edition(&board_set(dir)).into_bytes()),
+        ["refusal", dir] => Some(refusal(dir).into_bytes()),
         ["generate", kind, seed, dir] => seed.parse().ok().and_then(|seed| generate(kind, seed, dir)),
         ["cover", kind, from, to] => cover(kind, from, to),
         ["check"] => return check::check(),
@@ -43,12 +53,21 @@ fn main() -> ExitCode {
 /// "A program reads `board.set` and `run.rec` (one that can't be opened reads as empty) and prints the report, or
 /// `refused=N` and a newline with the first refusal's number and nothing else."
 fn run(dir: &str, print: fn(&board::Board, Vec<u8>) -> Vec<u8>) -> Vec<u8> {
-    let text = fs::read(format!("{dir}/board.set")).unwrap_or_default();
     let log = fs::read(format!("{dir}/run.rec")).unwrap_or_default();
-    match program::run(&text, &log, &mut |_, _| {}) {
+    match program::run(&board_set(dir), &log, &mut |_, _| {}) {
         Ok((board, rows)) => print(&board, rows),
-        Err((number, _)) => format!("refused={number}\n").into_bytes(),
+        Err(refusal) => program::refused(refusal).into_bytes(),
     }
+}
+
+fn board_set(dir: &str) -> Vec<u8> {
+    fs::read(format!("{dir}/board.set")).unwrap_or_default()
+}
+
+/// The number of the refusal of `board.set` and what it carries; nothing for good text.
+fn refusal(dir: &str) -> String {
+    let refusal = edition::read(&board_set(dir)).err();
+    refusal.map_or(String::new(), |refusal| format!("{} {refusal:?}\n", refusal.number()))
 }
 
 fn generate(kind: &str, seed: usize, dir: &str) -> Option<Vec<u8>> {

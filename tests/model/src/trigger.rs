@@ -1,4 +1,5 @@
-//! Document 01, "Cycle and trigger": step 4 of a crossing, by the state after the move.
+//! Document 01, "Cycle and trigger": step 4 of a crossing, by the state after the move and the controller's own schedule
+//! (document 02, P2).
 
 use crate::board::{count, Board, Cycle, Did, Lost, THROTTLE};
 use crate::settings::*;
@@ -7,15 +8,16 @@ impl Board {
     /// "An armed cycle at the holder opens at at_wte (code 13) and is open in that crossing; open, it sends 2 at at_te, asks one
     /// trigger at at_cal and ends with that crossing, sent or not."
     pub fn cycle_then_trigger(&mut self, n: usize, number: usize, requested: bool, did: &mut Did) {
-        if self.controllers[n].cycle == Cycle::Armed && self.holder == n && number == self.settings[AT_WTE] {
+        let at = self.settings.at[n];
+        if self.controllers[n].cycle == Cycle::Armed && self.holder == n && number == at[AT_WTE] {
             self.controllers[n].cycle = Cycle::Open;
             did.code = 13;
         }
         let open = self.controllers[n].cycle == Cycle::Open;
-        if open && number == self.settings[AT_TE] {
+        if open && number == at[AT_TE] {
             did.code = 2;
         }
-        if open && number == self.settings[AT_CAL] {
+        if open && number == at[AT_CAL] {
             did.calibration = Some(self.throttle(n));
         }
         if requested {

@@ -1,4 +1,4 @@
--- `desk_settings::main` is safe and ends: the standard text has 723 bytes, so it fits the buffer.
+-- `desk_settings::main` is safe and ends: the standard text has 1,724 bytes, so it fits the buffer.
 -- Its length is that of the settings that `standard` ensures.
 use mathlib.Core.Path.{_≡_, sym, ap, _∙_}
 use native.Mathlib.Omega.{arith}
@@ -6,12 +6,12 @@ use borrow.Author.Needs.{needs}
 use lib.ListN.{length}
 use lib.Seq.{length-take-le}
 use Rattle.settings.specs.declared.Settings.{Settings}
-use Rattle.settings.specs.Write.{textOf}
-use Rattle.settings.proofs.Standard.{standard-length}
+use Rattle.editions.specs.Write.{textOf}
+use Rattle.editions.proofs.Standard.{standard-length}
 use Rattle.desk_settings.proofs.main.Statement.{statement}
 use Rattle.desk_settings.proofs.main.Tie as tie
 
-long : (c : tie.After-text-length) → c .text-length .result ≡ 723
+long : (c : tie.After-text-length) → c .text-length .result ≡ 1724
 long c =
     c .text-length .ensures
     ∙ ap (λ (s : Settings). length (textOf s)) (c .before .before .before .before .standard .ensures)
@@ -20,11 +20,11 @@ long c =
 standard-requires : tie.Need-standard-requires
 standard-requires c κs = search needs
 
-slice-aggregate-write : tie.Need-slice-aggregate-write
-slice-aggregate-write c = search needs
+slice-aggregate-write-text : tie.Need-slice-aggregate-write-text
+slice-aggregate-write-text c = search needs
 
-write-requires : tie.Need-write-requires
-write-requires c κs = search needs
+write-text-requires : tie.Need-write-text-requires
+write-text-requires c κs = search needs
 
 text-length-requires : tie.Need-text-length-requires
 text-length-requires c κs = search needs
@@ -33,7 +33,7 @@ array-share-prefix-text : tie.Need-array-share-prefix-text
 array-share-prefix-text c = omega (arith, long c)
 
 slice-aggregate-write-all : tie.Need-slice-aggregate-write-all
-slice-aggregate-write-all c = sym (length-take-le _ _ (omega (arith, long (c .before), c .before .before .before .write .kept)))
+slice-aggregate-write-all c = sym (length-take-le _ _ (omega (arith, long (c .before), c .before .before .before .write-text .kept)))
 
 write-all-requires : tie.Need-write-all-requires
 write-all-requires c κs = search needs
@@ -49,8 +49,8 @@ main-spec =
     tie.close
     (tie.spec
     standard-requires
-    slice-aggregate-write
-    write-requires
+    slice-aggregate-write-text
+    write-text-requires
     text-length-requires
     array-share-prefix-text
     slice-aggregate-write-all

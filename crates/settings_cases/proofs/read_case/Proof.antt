@@ -33,9 +33,6 @@ slice-aggregate-read-edited-2 c = sym (length-take-le _ _ (c .before .before .be
 slice-aggregate-read-edited-3 : tie.Need-slice-aggregate-read-edited-3
 slice-aggregate-read-edited-3 c = search needs
 
-slice-aggregate-read-edited-4 : tie.Need-slice-aggregate-read-edited-4
-slice-aggregate-read-edited-4 c = search needs
-
 read-edited-requires : tie.Need-read-edited-requires
 read-edited-requires c κs = search needs
 
@@ -55,6 +52,5 @@ read-case-spec =
     array-share-prefix-to
     slice-aggregate-read-edited-2
     slice-aggregate-read-edited-3
-    slice-aggregate-read-edited-4
     read-edited-requires
     returns)

@@ -8,10 +8,10 @@ use Rattle.settings_cases.proofs.read_cases.Statement.{statement}
 use Rattle.settings_cases.proofs.read_cases.Tie as tie
 
 abbrev Inv-loop : tie.InvT-loop
-Inv-loop input at₀ at = at ≤ length input
+Inv-loop input from first newest at₀ at = at ≤ length input
 
 abbrev μ-loop : tie.MeasureT-loop
-μ-loop input at₀ at = length input - at
+μ-loop input from first newest at₀ at = length input - at
 
 loop-holds : tie.Need-loop-holds Inv-loop μ-loop
 loop-holds c = search needs
@@ -31,35 +31,35 @@ after-requires-2 c κs = search needs
 line-end-requires-3 : tie.Need-line-end-requires-3 Inv-loop μ-loop
 line-end-requires-3 c κs = search needs
 
-sub-read-case : tie.Need-sub-read-case Inv-loop μ-loop
-sub-read-case c = search needs
+sub-read-named : tie.Need-sub-read-named Inv-loop μ-loop
+sub-read-named c = search needs
 
-part-read-case-start : tie.Need-part-read-case-start Inv-loop μ-loop
-part-read-case-start c = search needs
+part-read-named-start : tie.Need-part-read-named-start Inv-loop μ-loop
+part-read-named-start c = search needs
 
-part-read-case-end : tie.Need-part-read-case-end Inv-loop μ-loop
-part-read-case-end c = search needs
+part-read-named-end : tie.Need-part-read-named-end Inv-loop μ-loop
+part-read-named-end c = search needs
 
-sub-read-case-2 : tie.Need-sub-read-case-2 Inv-loop μ-loop
-sub-read-case-2 c = search needs
+sub-read-named-2 : tie.Need-sub-read-named-2 Inv-loop μ-loop
+sub-read-named-2 c = search needs
 
-part-read-case-start-2 : tie.Need-part-read-case-start-2 Inv-loop μ-loop
-part-read-case-start-2 c = search needs
+part-read-named-start-2 : tie.Need-part-read-named-start-2 Inv-loop μ-loop
+part-read-named-start-2 c = search needs
 
-part-read-case-end-2 : tie.Need-part-read-case-end-2 Inv-loop μ-loop
-part-read-case-end-2 c = search needs
+part-read-named-end-2 : tie.Need-part-read-named-end-2 Inv-loop μ-loop
+part-read-named-end-2 c = search needs
 
-sub-read-case-3 : tie.Need-sub-read-case-3 Inv-loop μ-loop
-sub-read-case-3 c = search needs
+sub-read-named-3 : tie.Need-sub-read-named-3 Inv-loop μ-loop
+sub-read-named-3 c = search needs
 
-part-read-case-start-3 : tie.Need-part-read-case-start-3 Inv-loop μ-loop
-part-read-case-start-3 c = search needs
+part-read-named-start-3 : tie.Need-part-read-named-start-3 Inv-loop μ-loop
+part-read-named-start-3 c = search needs
 
-part-read-case-end-3 : tie.Need-part-read-case-end-3 Inv-loop μ-loop
-part-read-case-end-3 c = search needs
+part-read-named-end-3 : tie.Need-part-read-named-end-3 Inv-loop μ-loop
+part-read-named-end-3 c = search needs
 
-read-case-requires : tie.Need-read-case-requires Inv-loop μ-loop
-read-case-requires c κs = search needs
+read-named-requires : tie.Need-read-named-requires Inv-loop μ-loop
+read-named-requires c κs = search needs
 
 after-requires-3 : tie.Need-after-requires-3 Inv-loop μ-loop
 after-requires-3 c κs = search needs
@@ -89,16 +89,16 @@ read-cases-spec =
     line-end-requires-2
     after-requires-2
     line-end-requires-3
-    sub-read-case
-    part-read-case-start
-    part-read-case-end
-    sub-read-case-2
-    part-read-case-start-2
-    part-read-case-end-2
-    sub-read-case-3
-    part-read-case-start-3
-    part-read-case-end-3
-    read-case-requires
+    sub-read-named
+    part-read-named-start
+    part-read-named-end
+    sub-read-named-2
+    part-read-named-start-2
+    part-read-named-end-2
+    sub-read-named-3
+    part-read-named-start-3
+    part-read-named-end-3
+    read-named-requires
     after-requires-3
     loop-less
     loop-again

@@ -9,14 +9,14 @@ use Rattle.settings_cases.proofs.write_part.Tie as tie
 returns : tie.Need-returns
 returns c = search needs
 
-slice-relend-prefix-write : tie.Need-slice-relend-prefix-write
-slice-relend-prefix-write c = search needs
+slice-relend-prefix-write-text : tie.Need-slice-relend-prefix-write-text
+slice-relend-prefix-write-text c = search needs
 
-slice-aggregate-write : tie.Need-slice-aggregate-write
-slice-aggregate-write c = sym (length-take-le _ _ (c .before .if1 .left))
+slice-aggregate-write-text : tie.Need-slice-aggregate-write-text
+slice-aggregate-write-text c = sym (length-take-le _ _ (c .before .if1 .left))
 
-write-requires : tie.Need-write-requires
-write-requires c κs = search needs
+write-text-requires : tie.Need-write-text-requires
+write-text-requires c κs = search needs
 
 say-case-requires : tie.Need-say-case-requires
 say-case-requires c κs = search needs
@@ -47,9 +47,9 @@ write-part-spec =
     tie.close
     (tie.spec
     returns
-    slice-relend-prefix-write
-    slice-aggregate-write
-    write-requires
+    slice-relend-prefix-write-text
+    slice-aggregate-write-text
+    write-text-requires
     say-case-requires
     slice-aggregate-say-number
     changed-requires

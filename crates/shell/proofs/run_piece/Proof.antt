@@ -10,7 +10,8 @@ use lib.ListN.{take}
 use lib.Signed.{ltZ}
 use mir.Facts.{toZ-ofZ}
 use Rattle.board.specs.declared.Board.{Board}
-use Rattle.shell.specs.Pieces.{ReadFrom, pieceRun}
+use Rattle.files.specs.Read.{ReadFrom}
+use Rattle.shell.specs.Pieces.{pieceRun}
 use Rattle.shell.proofs.run_piece.Statement.{statement}
 use Rattle.shell.proofs.run_piece.Tie as tie
 

@@ -9,7 +9,7 @@ use Rattle.answer.specs.Told.{DONE, succeeded}
 use Rattle.settings.specs.declared.Settings.{Settings}
 use Rattle.settings.specs.Names.{orbitOf}
 use Rattle.settings.specs.Check.{checked}
-use Rattle.settings.proofs.Bounds.{done-checks}
+use Rattle.settings.proofs.Passed.{done-checks}
 use Rattle.clock.specs.declared.Clock.{Clock}
 use Rattle.clock.specs.declared.Turn.{Turn}
 use Rattle.clock.specs.Clock.{soundClock}

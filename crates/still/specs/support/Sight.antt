@@ -4,7 +4,6 @@ use mathlib.Core.Bool.{Bool, false, not, _&&_, _||_}
 use mathlib.Core.List.{List}
 use lib.Dec.{eqb}
 use lib.ListN.{getD}
-use Rattle.settings.specs.declared.names.Schedule.{Schedule}
 use Rattle.settings.specs.declared.names.Rules.{Rules}
 use Rattle.lanes.specs.support.Lanes.{laneClasses}
 use Rattle.words.specs.Same.{sameBytes}
@@ -28,8 +27,8 @@ firstSight turn table carried believed =
     record { turn = turn; classes = laneClasses table believed; firm = sameBytes 21 carried believed; marker = false; requests = 0; due = 0 }
 
 -- where the believed codes stay, so do the classes: it is those that a still crossing goes by
-unfoldable pub sightOf : (at : Schedule) (table slots : List ℕ) (clock : Clock) (turn : Turn) (calm : Bool) (carried believed rec : List ℕ) → Sight
-sightOf at table slots clock turn calm carried believed rec =
+unfoldable pub sightOf : (busy table slots : List ℕ) (clock : Clock) (turn : Turn) (calm : Bool) (carried believed rec : List ℕ) → Sight
+sightOf busy table slots clock turn calm carried believed rec =
     let marker = markerIn rec in
     let next = believedOf carried believed (codesIn rec) in
     record {
@@ -38,10 +37,10 @@ sightOf at table slots clock turn calm carried believed rec =
       firm = sameBytes 21 carried (codesIn rec);
       marker = marker;
       requests = getD rec 2 0;
-      due = dueOf (calm && sameBytes 21 believed next) at (numberOf clock marker) (getD rec 2 0);
+      due = dueOf (calm && sameBytes 21 believed next) busy (numberOf clock marker) (getD rec 2 0);
     }
 
--- what all eight see, p being the holder: where it asks, the rules by the limits of the state that it moves to
+-- what all eight see, p being the holder and plan its own: where it asks, the rules by the limits of the state that it moves to
 unfoldable pub sceneFor : (plan : Plan) (rules : Rules) (blocks : Bool) (p : Ptc) (sight : Sight) (marks : List ℕ) (clock : Clock) → Scene
 sceneFor plan rules blocks p sight marks clock =
     let number = numberOf clock (sight .marker) in

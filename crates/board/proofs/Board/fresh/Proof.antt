@@ -4,7 +4,7 @@ use mathlib.Core.Path.{_≡_, sym, ap, _∙_}
 use borrow.Author.Needs.{needs}
 use Rattle.answer.specs.Told.{succeeded}
 use Rattle.settings.specs.Check.{checked}
-use Rattle.settings.proofs.Bounds.{done-checks}
+use Rattle.settings.proofs.Passed.{done-checks}
 use Rattle.settings.proofs.Standard.{standard-checks}
 use Rattle.board.specs.Fresh.{freshOf}
 use Rattle.board.proofs.Board.fresh.Statement.{statement}

@@ -24,32 +24,35 @@ use Rattle.board.specs.declared.Board.{Board}
 use Rattle.board.specs.Crossing.{withPtcs}
 use Rattle.board.proofs.Settled.{sound-parts}
 use Rattle.board.proofs.Keeps.{Fit}
-use Rattle.board.proofs.Turn.{Stands, Begun, stands-first, ptcs-long, crossing-kind, command-at, named, command-stands, crossing-room, clock-asked, next-asked, rules-asked, room-asked, due-fits, quiet-at, shown-fits, crossing-stands}
+use Rattle.board.proofs.Turn.{plansIn, Stands, Begun, stands-first, ptcs-long, crossing-kind, command-at, named, command-stands, crossing-room, clock-asked, next-asked, rules-asked, room-asked, due-fits, quiet-at, shown-fits, crossing-stands}
 use Rattle.board.proofs.Board.run.Statement.{statement}
 use Rattle.board.proofs.Board.run.Tie as tie
 
 abbrev Inv-loop2 : tie.InvT-loop2
-Inv-loop2 log n rows self₀ kit slots clock carried believed sight shown₀ calm₀ i classes scene bytes₀ k₀ self shown calm bytes k =
+Inv-loop2 log n rows self₀ kit slots plans busy clock carried believed sight shown₀ calm₀ i classes own scene bytes₀ k₀ self shown calm bytes k =
     (self ≡ withPtcs self₀ (self .ptcs))
-    × (Acting (kit .plan) scene (sight .classes) (sight .requests) (sight .due) (self₀ .ptcs) shown₀ k (self .ptcs) bytes shown calm)
+    × (Acting (plansIn kit) scene (sight .classes) (sight .requests) (sight .due) (self₀ .ptcs) shown₀ k (self .ptcs) bytes shown calm)
 
 abbrev μ-loop2 : tie.MeasureT-loop2
-μ-loop2 log n rows self₀ kit slots clock carried believed sight shown₀ calm₀ i classes scene bytes₀ k₀ self shown calm bytes k = 8 - k
+μ-loop2 log n rows self₀ kit slots plans busy clock carried believed sight shown₀ calm₀ i classes own scene bytes₀ k₀ self shown calm bytes k = 8 - k
 
 abbrev Inv-loop : tie.InvT-loop
-Inv-loop log n rows₀ self₀ kit slots clock₀ carried₀ believed₀ sight₀ shown₀ calm₀ i₀ rows self clock carried believed sight shown calm i =
+Inv-loop log n rows₀ self₀ kit slots plans busy clock₀ carried₀ believed₀ sight₀ shown₀ calm₀ i₀ rows self clock carried believed sight shown calm i =
     Stands self₀ log n rows₀ kit rows self clock (record { carried = carried; believed = believed }) sight shown calm i
 
 abbrev μ-loop : tie.MeasureT-loop
-μ-loop log n rows₀ self₀ kit slots clock₀ carried₀ believed₀ sight₀ shown₀ calm₀ i₀ rows self clock carried believed sight shown calm i = n - i
+μ-loop log n rows₀ self₀ kit slots plans busy clock₀ carried₀ believed₀ sight₀ shown₀ calm₀ i₀ rows self clock carried believed sight shown calm i = n - i
 
 -- ---- the ways back: to the turn's begin, to where the record was found a crossing, and to where it was looked at
 
 abbrev start : tie.In-loop Inv-loop2 μ-loop2 Inv-loop μ-loop → tie.Start Inv-loop2 μ-loop2 Inv-loop μ-loop
-start c = c .before .before .before .before .before .before .before .before .before .before .before .before .before .before .before .before .before
+start c = c .before .before .before .before .before .before .before .before .before .before .before .before .before .before .before .before .before .before .before .before
 
 abbrev making : tie.In-loop Inv-loop2 μ-loop2 Inv-loop μ-loop → tie.After-of Inv-loop2 μ-loop2 Inv-loop μ-loop
-making c = c .before .before .before .before .before .before .before .before .before .before .before .before .before
+making c = c .before .before .before .before .before .before .before .before .before .before .before .before .before .before .before .before
+
+abbrev marking : tie.In-loop Inv-loop2 μ-loop2 Inv-loop μ-loop → tie.After-busy-of Inv-loop2 μ-loop2 Inv-loop μ-loop
+marking c = c .before .before .before .before .before .before .before .before .before .before .before .before
 
 abbrev obeying : tie.After-command Inv-loop2 μ-loop2 Inv-loop μ-loop → tie.Then1 Inv-loop2 μ-loop2 Inv-loop μ-loop
 obeying c = c .before .before .before .before .before
@@ -94,7 +97,7 @@ module _ (c : tie.Start Inv-loop2 μ-loop2 Inv-loop μ-loop) where
 begun : (c : tie.In-loop Inv-loop2 μ-loop2 Inv-loop μ-loop) →
     let a = start c .args in
     let l = c .before .loop in
-    Begun (a .t1) (a .log .now) (a .n) (a .rows .now) (making c .of .result) (l .rows) (l .self) (l .clock) (record { carried = l .carried; believed = l .believed }) (l .sight) (l .shown) (l .calm) (l .i)
+    Begun (a .t1) (a .log .now) (a .n) (a .rows .now) (making c .of .result) (marking c .busy-of .result) (l .rows) (l .self) (l .clock) (record { carried = l .carried; believed = l .believed }) (l .sight) (l .shown) (l .calm) (l .i)
 begun c =
     let s = start c in
     record {
@@ -105,6 +108,7 @@ begun c =
       life = s .pre .4;
       bytes = λ n. making c .before .before .before .shared-slice-known .given n .fits;
       made = making c .of .ensures;
+      marked = marking c .busy-of .ensures;
       less = c .loop-test .taken;
       here = c .before .loop .inv;
     }
@@ -145,7 +149,7 @@ module _ (s : tie.After-scene Inv-loop2 μ-loop2 Inv-loop μ-loop) where
   low-at = due-fits (begun (turn s)) (crossed-at (crossing (looking s))) _ (looking s .next .ensures .0) _ (s .scene .ensures)
 
   quiet : (j : ℕ) → j < 8 → askedIn (looking s .next .result .due) j ≡ false
-      → Quiet (making (turn s) .of .result .plan) (s .scene .result) (looking s .next .result .classes) (looking s .next .result .requests)
+      → Quiet (plansIn (making (turn s) .of .result)) (s .scene .result) (looking s .next .result .classes) (looking s .next .result .requests)
       (looking s .next .result .due) (turn s .before .loop .self .ptcs) (turn s .before .loop .shown) j
   quiet = quiet-at (begun (turn s)) (crossed-at (crossing (looking s))) _ (looking s .next .ensures .0) _ (s .scene .ensures)
 
@@ -158,14 +162,14 @@ copied l =
 told : (c : tie.After-crossed Inv-loop2 μ-loop2 Inv-loop μ-loop) →
     let l = acting c in
     let n = looking (seeing l) .next .result in
-    c .crossed .result ≡ actOf (making (turn (seeing l)) .of .result .plan) (seeing l .scene .result) (n .classes) (n .requests) (l .before .loop2 .k) (getD (l .before .loop2 .self .ptcs) (l .before .loop2 .k) freshPtc)
+    c .crossed .result ≡ actOf (plansIn (making (turn (seeing l)) .of .result) (l .before .loop2 .k)) (seeing l .scene .result) (n .classes) (n .requests) (l .before .loop2 .k) (getD (l .before .loop2 .self .ptcs) (l .before .loop2 .k) freshPtc)
 told c = acted _ _ _ _ _ _ _ _ (c .before .before .asked .ensures) (c .crossed .ensures)
 
 acted-at : (c : tie.After-loop2 Inv-loop2 μ-loop2 Inv-loop μ-loop) →
     let s = c .before .before .before in
     let n = looking s .next .result in
     let l = c .before .loop2 in
-    Acted (making (turn s) .of .result .plan) (s .scene .result) (n .classes) (n .requests) (n .due) (turn s .before .loop .self .ptcs) (turn s .before .loop .shown)
+    Acted (plansIn (making (turn s) .of .result)) (s .scene .result) (n .classes) (n .requests) (n .due) (turn s .before .loop .self .ptcs) (turn s .before .loop .shown)
     (l .self .ptcs) (l .bytes) (l .shown) (l .calm)
 acted-at c =
     let s = c .before .before .before in
@@ -176,11 +180,14 @@ acted-at c =
 of-requires : tie.Need-of-requires Inv-loop2 μ-loop2 Inv-loop μ-loop
 of-requires c κs = search needs
 
+busy-of-requires : tie.Need-busy-of-requires Inv-loop2 μ-loop2 Inv-loop μ-loop
+busy-of-requires c κs = search needs
+
 first-requires : tie.Need-first-requires Inv-loop2 μ-loop2 Inv-loop μ-loop
-first-requires c κs = let a = c .before .before .before .before .before .before .before .before .before .before .before .before .before .before in (carried-long a, believed-long a, believed-low (first-held a) (held-sound a))
+first-requires c κs = let a = c .before .before .before .before .before .before .before .before .before .before .before .before .before .before .before .before .before in (carried-long a, believed-long a, believed-low (first-held a) (held-sound a))
 
 loop-holds : tie.Need-loop-holds Inv-loop2 μ-loop2 Inv-loop μ-loop
-loop-holds c = stands-first _ _ _ _ _ _ (coded-at (c .before .before .before .before .before .before .before .before .before .before .before .before .before .before .before) (c .first .ensures .1) (c .first .ensures .2)) (c .first .ensures .0)
+loop-holds c = stands-first _ _ _ _ _ _ (coded-at (c .before .before .before .before .before .before .before .before .before .before .before .before .before .before .before .before .before .before) (c .first .ensures .1) (c .first .ensures .2)) (c .first .ensures .0)
 
 mul-if1 : tie.Need-mul-if1 Inv-loop2 μ-loop2 Inv-loop μ-loop
 mul-if1 c = search (needs, fits c)
@@ -257,14 +264,20 @@ loop-again c =
 next-requires : tie.Need-next-requires Inv-loop2 μ-loop2 Inv-loop μ-loop
 next-requires c κs = next-asked (begun (c .before .before .before .before .before .before .before .before)) (crossed-at (c .before .before .before .before .before .before))
 
-cast-h : tie.Need-cast-h Inv-loop2 μ-loop2 Inv-loop μ-loop
-cast-h c = search needs
+cast-own : tie.Need-cast-own Inv-loop2 μ-loop2 Inv-loop μ-loop
+cast-own c = search needs
 
 mul-h : tie.Need-mul-h Inv-loop2 μ-loop2 Inv-loop μ-loop
 mul-h c = search needs
 
 element-copy-out-h : tie.Need-element-copy-out-h Inv-loop2 μ-loop2 Inv-loop μ-loop
 element-copy-out-h c = search needs
+
+mul-plan : tie.Need-mul-plan Inv-loop2 μ-loop2 Inv-loop μ-loop
+mul-plan c = search needs
+
+array-copy-out-plan : tie.Need-array-copy-out-plan Inv-loop2 μ-loop2 Inv-loop μ-loop
+array-copy-out-plan c = search needs
 
 scene-requires : tie.Need-scene-requires Inv-loop2 μ-loop2 Inv-loop μ-loop
 scene-requires c κs = rules-asked (begun (c .before .before .before .before .before .before .before .before .before .before .before .before .before .before .before .before)) (crossed-at (c .before .before .before .before .before .before .before .before .before .before .before .before .before .before))
@@ -285,6 +298,12 @@ element-copy-out-p-2 c = search needs
 
 asked-requires : tie.Need-asked-requires Inv-loop2 μ-loop2 Inv-loop μ-loop
 asked-requires c κs = search needs
+
+mul-plan-2 : tie.Need-mul-plan-2 Inv-loop2 μ-loop2 Inv-loop μ-loop
+mul-plan-2 c = search needs
+
+array-copy-out-plan-2 : tie.Need-array-copy-out-plan-2 Inv-loop2 μ-loop2 Inv-loop μ-loop
+array-copy-out-plan-2 c = search needs
 
 cast-crossed : tie.Need-cast-crossed Inv-loop2 μ-loop2 Inv-loop μ-loop
 cast-crossed c = search needs
@@ -406,7 +425,7 @@ same-length c = search needs
 returns : tie.Need-returns Inv-loop2 μ-loop2 Inv-loop μ-loop
 returns c =
     let l = c .before .before .loop in
-    let e : l .i ≡ c .before .before .before .before .before .before .before .before .before .before .before .before .before .before .before .before .before .before .args .n = omega (arith, c .before .loop-test .left, l .inv .most) in
+    let e : l .i ≡ c .before .before .before .before .before .before .before .before .before .before .before .before .before .before .before .before .before .before .before .before .before .args .n = omega (arith, c .before .loop-test .left, l .inv .most) in
     (rw (← e) (l .inv .board), rw (← e) (l .inv .laidOut))
 
 pub run-spec : {M : Type 1} → statement M
@@ -418,6 +437,7 @@ run-spec =
     Inv-loop
     μ-loop
     of-requires
+    busy-of-requires
     first-requires
     loop-holds
     mul-if1
@@ -444,15 +464,19 @@ run-spec =
     loop-less
     loop-again
     next-requires
-    cast-h
+    cast-own
     mul-h
     element-copy-out-h
+    mul-plan
+    array-copy-out-plan
     scene-requires
     next-due-requires
     loop2-holds
     mul-p-2
     element-copy-out-p-2
     asked-requires
+    mul-plan-2
+    array-copy-out-plan-2
     cast-crossed
     array-read-crossed
     crossed-requires

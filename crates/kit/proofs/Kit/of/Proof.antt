@@ -1,12 +1,15 @@
--- `Kit::of` meets its contract: its six parts, each as its calls ensure it.
+-- `Kit::of` meets its contract: its seven parts, each as its calls ensure it.
 -- A literal of what the calls return.
 use borrow.Author.Needs.{needs}
 use Rattle.kit.specs.support.Laid.{kitOf}
 use Rattle.kit.proofs.Kit.of.Statement.{statement}
 use Rattle.kit.proofs.Kit.of.Tie as tie
 
-plan-of-requires : tie.Need-plan-of-requires
-plan-of-requires c κs = search needs
+waits-requires : tie.Need-waits-requires
+waits-requires c κs = search needs
+
+plans-of-requires : tie.Need-plans-of-requires
+plans-of-requires c κs = search needs
 
 rules-requires : tie.Need-rules-requires
 rules-requires c κs = search needs
@@ -32,9 +35,10 @@ returns c =
     let slots = c .before .before in
     let table = slots .before in
     let rules = table .before .before in
-    rw (c .warn-blocks .ensures, c .before .orbit .ensures, slots .slots-of .ensures, table .table .ensures, table .before .of .ensures, rules .rules .ensures, rules .before .plan-of .ensures)
+    let plans = rules .before in
+    rw (c .warn-blocks .ensures, c .before .orbit .ensures, slots .slots-of .ensures, table .table .ensures, table .before .of .ensures, rules .rules .ensures, plans .plans-of .ensures, plans .before .waits .ensures)
 
 pub of-spec : {M : Type 1} → statement M
 of-spec =
     tie.close
-    (tie.spec plan-of-requires rules-requires of-requires table-requires slots-of-requires orbit-requires warn-blocks-requires returns)
+    (tie.spec waits-requires plans-of-requires rules-requires of-requires table-requires slots-of-requires orbit-requires warn-blocks-requires returns)

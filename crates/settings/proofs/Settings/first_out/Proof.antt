@@ -7,16 +7,17 @@ use borrow.Author.Tests.{not-true, not-false}
 use borrow.Author.Needs.{needs}
 use lib.ListN.{length, drop}
 use Rattle.text.specs.Lines.{rangesOf, firstOut}
-use Rattle.keys.specs.Settings.{table}
-use Rattle.settings.proofs.Deciding.{range-here, range-later, range-none}
+use Rattle.keys.specs.Settings.{valueLines}
+use Rattle.settings.specs.Check.{outOfRange}
+use Rattle.settings.proofs.Ranges.{range-here, range-later, range-none}
 use Rattle.settings.proofs.Settings.first_out.Statement.{statement}
 use Rattle.settings.proofs.Settings.first_out.Tie as tie
 
 abbrev Inv-loop : tie.InvT-loop
-Inv-loop v lows highs n₀ n = (n ≤ 71) × (length v ≡ 71) × (firstOut (rangesOf table) 1 v ≡ firstOut (drop n (rangesOf table)) (n + 1) (drop n v))
+Inv-loop v lows highs n₀ n = (n ≤ 148) × (length v ≡ 148) × (firstOut (rangesOf valueLines) 2 v ≡ firstOut (drop n (rangesOf valueLines)) (n + 2) (drop n v))
 
 abbrev μ-loop : tie.MeasureT-loop
-μ-loop v lows highs n₀ n = 71 - n
+μ-loop v lows highs n₀ n = 148 - n
 
 low-values-requires : tie.Need-low-values-requires Inv-loop μ-loop
 low-values-requires c κs = search needs
@@ -33,6 +34,9 @@ mul-x c = search needs
 array-read-x : tie.Need-array-read-x Inv-loop μ-loop
 array-read-x c = search needs
 
+add-range : tie.Need-add-range Inv-loop μ-loop
+add-range c = search needs
+
 range-requires : tie.Need-range-requires Inv-loop μ-loop
 range-requires c κs = search needs
 
@@ -43,6 +47,7 @@ add-result : tie.Need-add-result Inv-loop μ-loop
 add-result c = search needs
 
 returns : tie.Need-returns Inv-loop μ-loop
+unfolding outOfRange
 returns c =
     let h = c .before in
     let t = h .before .before .before .before in
@@ -63,6 +68,7 @@ loop-again c =
     (omega arith, i .1, i .2 ∙ range-later _ _ (i .1) (t .loop-test .taken) _ (h .before .range .ensures .0) (sym (h .holds .ensures) ∙ not-false _ (c .if1 .left)))
 
 returns-2 : tie.Need-returns-2 Inv-loop μ-loop
+unfolding outOfRange
 returns-2 c = sym (c .before .loop .inv .2 ∙ range-none _ _ _ (c .loop-test .left))
 
 pub first-out-spec : {M : Type 1} → statement M
@@ -76,6 +82,7 @@ first-out-spec =
     loop-holds
     mul-x
     array-read-x
+    add-range
     range-requires
     holds-requires
     add-result

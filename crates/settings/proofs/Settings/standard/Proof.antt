@@ -5,7 +5,7 @@ use mathlib.Core.List.{List}
 use Prim.Native.Nat.{ℕ}
 use borrow.Author.Needs.{needs}
 use Rattle.settings.specs.declared.Settings.{Settings}
-use Rattle.settings.specs.Read.{standard}
+use Rattle.settings.specs.Standard.{standard}
 use Rattle.settings.proofs.Settings.standard.Statement.{statement}
 use Rattle.settings.proofs.Settings.standard.Tie as tie
 

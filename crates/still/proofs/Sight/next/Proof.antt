@@ -8,7 +8,6 @@ use native.Mathlib.Omega.{arith}
 use borrow.Author.Needs.{needs}
 use lib.Dec.{eqb}
 use lib.ListN.{length, getD, take, drop}
-use Rattle.settings.specs.declared.names.Schedule.{Schedule}
 use Rattle.status.specs.Codes.{Coded}
 use Rattle.lanes.specs.support.Lanes.{laneClasses}
 use Rattle.words.proofs.Laws.{same-lists}
@@ -47,16 +46,16 @@ module _ (carried believed log : List ℕ) (i : ℕ) (n : Coded (codesIn (recAt 
               before ∙ ap (laneClasses table) (same ∙ sym moved),
         )
 
-sight-is : (at : Schedule) (table slots : List ℕ) (clock : Clock) (old : Turn) (calm : Bool) (carried believed log : List ℕ) (i : ℕ) (turn : Turn) (classes : List ℕ) (news : News) (after : List ℕ)
+sight-is : (busy table slots : List ℕ) (clock : Clock) (old : Turn) (calm : Bool) (carried believed log : List ℕ) (i : ℕ) (turn : Turn) (classes : List ℕ) (news : News) (after : List ℕ)
     (still ends : Bool) (number due : ℕ)
     → news ≡ newsOf carried believed (lent log i) → after ≡ believedOf carried believed (lent log i) → classes ≡ laneClasses table after
     → ends ≡ orbitEnds clock (eqb (getD log (24 * i + 1) 0) 1)
     → turn ≡ turnedOf slots ends old → number ≡ numberOf clock (eqb (getD log (24 * i + 1) 0) 1) → still ≡ (calm && news .stays)
-    → due ≡ dueOf still at number (getD log (24 * i + 2) 0)
+    → due ≡ dueOf still busy number (getD log (24 * i + 2) 0)
     → _≡_ {A = Sight} (record { turn = turn; classes = classes; firm = news .firm; marker = eqb (getD log (24 * i + 1) 0) 1; requests = getD log (24 * i + 2) 0; due = due })
-    (sightOf at table slots clock old calm carried believed (recAt log i))
+    (sightOf busy table slots clock old calm carried believed (recAt log i))
 unfolding sightOf newsOf
-sight-is at table slots clock old calm carried believed log i turn classes news after still ends number due w a c e t n f d =
+sight-is busy table slots clock old calm carried believed log i turn classes news after still ends number due w a c e t n f d =
     let marker = rec-byte log i 1 (omega arith) in
     let requests = rec-byte log i 2 (omega arith) in
     rw (d, f, n, t, e, c, a, w, codes-lent log i, ← marker, ← requests)
@@ -135,7 +134,7 @@ returns c =
     let f = k .before .before .before in
     let a = f .before .before .before .before .before .before .before .args in
     let lent-is = codes-lent (a .log .now) (a .i) in (
-      sight-is (a .at) (a .table .now) (a .slots .now) (a .clock) (a .self .turn) (a .calm) (a .carried .now) (a .believed .now) (a .log .now) (a .i) _ _ _ _ _ _ _ _
+      sight-is (a .busy .now) (a .table .now) (a .slots .now) (a .clock) (a .self .turn) (a .calm) (a .carried .now) (a .believed .now) (a .log .now) (a .i) _ _ _ _ _ _ _ _
           (f .follow .ensures .0) (f .follow .ensures .1) (k .classes-of .ensures) (t .before .ends-orbit .ensures) (t .turned .ensures) (c .before .before .number .ensures)
           (c .before .both .ensures) (c .due .ensures),
       f .follow .ensures .1 ∙ ap (believedOf (a .carried .now) (a .believed .now)) lent-is,

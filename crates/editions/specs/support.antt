@@ -1,0 +1,4 @@
+-- What the code goes by and no reader of document 01 has to believe: the laws in proofs/ tie it to the definitions beside this folder.
+pub mod Tables
+pub mod Got
+pub mod Prefix

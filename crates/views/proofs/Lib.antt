@@ -1,0 +1,4 @@
+mod By
+mod Equal
+mod First
+pub mod AsBefore
