@@ -33,6 +33,7 @@ use Rattle.states.specs.Names.{statusOf}
 use Rattle.states.specs.Moves.{orbitCode}
 use Rattle.ptc.specs.declared.Ptc.{Ptc}
 use Rattle.ptc.specs.declared.Plan.{Plan}
+use Rattle.ptc.specs.support.Times.{planFrom}
 use Rattle.ptc.specs.declared.Scene.{Scene}
 use Rattle.ptc.specs.declared.Crossed.{Crossed}
 use Rattle.ptc.specs.declared.Commanded.{Commanded}
@@ -47,6 +48,7 @@ use Rattle.records.proofs.Laws.{rec-long, rec-byte, rec-bytes, well-at, command
 use Rattle.records.proofs.Laid.{laid}
 use Rattle.kit.specs.declared.Kit.{Kit}
 use Rattle.kit.specs.Kit.{planOf}
+use Rattle.kit.proofs.Plans.{plan-from}
 use Rattle.kit.specs.support.Laid.{busyOf, kitOf}
 use Rattle.eight.specs.Eight.{actOf, ptcOf, byteOf, shownOf, clockOf}
 use Rattle.eight.proofs.Eight.{room-at, shown-low}
@@ -67,16 +69,8 @@ use Rattle.board.proofs.Keeps.{Fit, ran-settings, ran-room, ran-ptcs-lo
 
 -- ---- the loop's invariant
 
--- what a table of plans reads as past its end
-abbrev noPlan : Plan
-noPlan = record {
-  at = record { bc0 = 0; te = 0; resync = 0; hard = 0; ec0 = 0; oc0 = 0; start = 0; stop = 0; gap = 0; wte = 0; cal = 0 };
-  waits = record { settle = record { resync = 0; hard = 0 }; recover = record { resync = 0; hard = 0 } };
-  gap = record { low = 0; high = 0 };
-}
-
 abbrev pub plansIn : Kit → ℕ → Plan
-plansIn kit k = getD (kit .plans) k noPlan
+plansIn kit = planFrom (kit .times) (kit .waits) (kit .gap)
 
 -- all eight are at rest under these classes, and show what is kept of them
 pub record Calm (got shown : List ℕ) (ps : List Ptc) : Type 0 where
@@ -148,9 +142,9 @@ module _ {first : Board} {log : List ℕ} {n : ℕ} {old : List ℕ} {kit : Kit}
   busy-at : busy ≡ busyOf (now .settings)
   busy-at = t .marked ∙ rw (t .here .board, ran-settings first log i)
 
-  plan-at : (k : ℕ) → k < 8 → plansIn kit k ≡ planOf (now .settings) k
+  plan-at : (k : ℕ) → plansIn kit k ≡ planOf (now .settings) k
   unfolding kitOf
-  plan-at k h = rw own-at (getD-tabulate (planOf (now .settings)) 0 8 k _ h ∙ rw zero-add)
+  plan-at k = rw own-at (plan-from (now .settings) k)
 
   long-at : length rec ≡ 24
   long-at = rec-long log i n (t .long) (t .less)
@@ -248,7 +242,7 @@ module _ {first : Board} {log : List ℕ} {n : ℕ} {old : List ℕ} {kit : Kit}
     rules-asked = scene-asked now kit own-at (fit-at .sound) .2
 
     module _ (seen : Sight) (looks : seen ≡ sightOf busy (kit .lanes) (kit .slots) clock (sight .turn) calm (held .carried) (held .believed) rec)
-        (scene : Scene) (sees : scene ≡ sceneFor (plansIn kit (seen .turn .holder % 8)) (kit .rules) (kit .blocks) (getD (kept .ptcs) (seen .turn .holder % 8) freshPtc) seen (kept .marks) clock) where
+        (scene : Scene) (sees : scene ≡ sceneFor (kit .times) (kit .waits) (kit .rules) (kit .blocks) (getD (kept .ptcs) (seen .turn .holder % 8) freshPtc) seen (kept .marks) clock) where
       -- the believed codes with those of this crossing
       abbrev next : List ℕ
       next = believedOf (held .carried) (held .believed) (codesIn rec)
@@ -301,10 +295,11 @@ module _ {first : Board} {log : List ℕ} {n : ℕ} {old : List ℕ} {kit : Kit}
           let stays = same-lists (held .believed) next 21 (t .here .codes .1 .long) (next-coded .long) (w .1) in
           let same : sight .classes ≡ seen .classes = t .here .votes ∙ ap (laneClasses (kit .lanes)) stays ∙ sym votes-at in
           let rests = rw same at (c .rests j h) in
-          let code : orbitCode (plansIn kit j .at) (scene .number) ≡ 0 = rw (plan-at j h, number-at) (plain-code (now .settings) _ j (rw busy-at at (p .plain)) h) in
+          let plain : orbitCode (planOf (now .settings) j .at) (scene .number) ≡ 0 = rw number-at (plain-code (now .settings) _ j (rw busy-at at (p .plain)) h) in
+          let code = ap (λ (x : Plan). orbitCode (x .at) (scene .number)) (plan-at j) ∙ plain in
           record { rests = rests; shows = c .shows j h; stays = passed-over (plansIn kit j) scene _ _ j _ rests code (p .silent) }
 
-      scene-at : wholeScene (plansIn kit) (kit .rules) (kit .blocks) seen (kept .marks) clock (kept .ptcs) ≡ sceneOf now (markerIn rec)
+      scene-at : wholeScene (kit .times) (kit .waits) (kit .gap) (kit .rules) (kit .blocks) seen (kept .marks) clock (kept .ptcs) ≡ sceneOf now (markerIn rec)
       unfolding sceneBy kitOf
       scene-at = rw (marker-at, turn-at, own-at)
 
@@ -313,8 +308,8 @@ module _ {first : Board} {log : List ℕ} {n : ℕ} {old : List ℕ} {kit : Kit}
           ≡ actOf (planOf (kept .settings) k) (sceneOf now (markerIn rec)) (classesIn now rec) (getD rec 2 0) k (getD (kept .ptcs) k freshPtc)
       acts-at k h =
           ap (λ (s : Scene). actOf (plansIn kit k) s (seen .classes) (seen .requests) k (getD (kept .ptcs) k freshPtc)) sees
-          ∙ scene-seen (plansIn kit) (kit .rules) (kit .blocks) seen (kept .marks) clock (kept .ptcs) k h
-          ∙ rw (scene-at, plan-at k h, classes-at, requests-at)
+          ∙ scene-seen (kit .times) (kit .waits) (kit .gap) (kit .rules) (kit .blocks) seen (kept .marks) clock (kept .ptcs) k h
+          ∙ rw (scene-at, plan-at k, classes-at, requests-at)
 
       -- what the loop made of the eight is what the definition makes of them
       eight-at : {A : Type 0} (g : Crossed → A) (d : A)

@@ -101,7 +101,6 @@ impl Board {
     {
         let kit = Kit::of(self.settings);
         let slots = kit.slots;
-        let plans = kit.plans;
         let busy = kit::busy_of(self.settings);
         let mut clock = self.clock;
         let held = self.held;
@@ -136,18 +135,31 @@ impl Board {
             );
             sight = next;
             let classes = sight.classes;
-            let own = (sight.turn.holder % 8) as usize;
-            let h = self.ptcs[own];
-            let plan = plans[own];
-            let scene = sight.scene(plan, kit.rules, kit.blocks, h, &self.marks, clock);
+            let h = self.ptcs[(sight.turn.holder % 8) as usize];
+            let scene = sight.scene(
+                &kit.times,
+                kit.waits,
+                kit.rules,
+                kit.blocks,
+                h,
+                &self.marks,
+                clock,
+            );
             let mut bytes = [0u8; 8];
             calm = true;
             let mut k = still::next_due(sight.due, 0);
             while k < 8 {
                 let p = self.ptcs[k];
                 let asked = records::asked(sight.requests, k);
-                let plan = plans[k];
-                let o = p.crossed(plan, scene, k as u32, classes[k], asked);
+                let o = p.crossed(
+                    &kit.times,
+                    kit.waits,
+                    kit.gap,
+                    scene,
+                    k as u32,
+                    classes[k],
+                    asked,
+                );
                 let q = o.ptc;
                 bytes[k] = records::row_byte(o.code, o.sent, o.cal);
                 shown[k] = states::status(q.state);

@@ -1,18 +1,19 @@
 // What of the settings a crossing goes by, laid out once for many crossings.
-use ptc::Plan;
+use settings::Gap;
 use settings::Rules;
 use settings::Settings;
 use settings::Waits;
 use status::Merger;
 ghost use mathlib.Core.Path.{_≡_};
-ghost use Rattle.kit.specs.Kit.{slotsOf, planOf};
-ghost use Rattle.laws.specs.Base.{tabulate};
-ghost use Rattle.kit.specs.support.Laid.{busyOf, kitOf};
+ghost use Rattle.kit.specs.Kit.{slotsOf};
+ghost use Rattle.kit.specs.support.Laid.{timesFor, busyOf, kitOf};
 
 pub struct Kit {
     pub orbit: u32,
     pub waits: Waits,
-    pub plans: [Plan; 8],
+    pub gap: Gap,
+    // The schedules of all eight, eleven numbers each.
+    pub times: [u32; 88],
     pub rules: Rules,
     pub blocks: bool,
     pub lanes: [u64; 656],
@@ -31,31 +32,17 @@ pub fn slots_of(s: Settings) -> [u32; 8]
     slots
 }
 
-fn plan_of(s: Settings, k: usize) -> Plan
-    ensures { λ r. ⌜ r ≡ planOf s k ⌝ }
+fn times_of(s: Settings) -> [u32; 88]
+    ensures { λ r. ⌜ r ≡ timesFor s ⌝ }
 {
-    let at = s.schedule(k);
-    let waits = s.waits();
-    let gap = s.gap();
-    Plan {
-        at: at,
-        waits: waits,
-        gap: gap,
+    let v = s.values;
+    let mut times = [0u32; 88];
+    let mut n = 0;
+    while n < 88 {
+        times[n] = v[28 + n];
+        n += 1;
     }
-}
-
-fn plans_of(s: Settings) -> [Plan; 8]
-    ensures { λ r. ⌜ r ≡ tabulate (planOf s) 0 8 ⌝ }
-{
-    let first = plan_of(s, 0);
-    let mut plans = [first; 8];
-    let mut k = 0;
-    while k < 8 {
-        let plan = plan_of(s, k);
-        plans[k] = plan;
-        k += 1;
-    }
-    plans
+    times
 }
 
 // 1 at each number at which some controller sends code 1 or 11. Not a part of the kit: two parts of one value are not lent at once.
@@ -78,14 +65,16 @@ impl Kit {
         ensures { λ r. ⌜ r ≡ kitOf s ⌝ }
     {
         let waits = s.waits();
-        let plans = plans_of(s);
+        let gap = s.gap();
+        let times = times_of(s);
         let rules = s.rules();
         let lanes = lanes::table(Merger::of(s));
         let slots = slots_of(s);
         Kit {
             orbit: s.orbit(),
             waits: waits,
-            plans: plans,
+            gap: gap,
+            times: times,
             rules: rules,
             blocks: s.warn_blocks(),
             lanes: lanes,

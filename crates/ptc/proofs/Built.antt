@@ -6,6 +6,7 @@ use Prim.Native.Nat.{ℕ, _+_}
 use lib.Dec.{eqb}
 use Rattle.laws.specs.Base.{if, one}
 use Rattle.settings.specs.declared.names.Waits.{Waits}
+use Rattle.settings.specs.declared.names.Gap.{Gap}
 use Rattle.states.specs.declared.Moved.{Moved}
 use Rattle.states.specs.Moves.{entryWait, movedOf, orbitCode}
 use Rattle.states.specs.Commands.{stateAfter}
@@ -60,21 +61,20 @@ unfolding crossedOf
 crossed-is plan scene k class asked p moves keeps opens asking frees falls passing sends calibrates counting leaves adds orbiting cycling coding =
     rw (coding, cycling, orbiting, adds, leaves, counting, calibrates, sends, passing, falls, frees, asking, opens, keeps, moves)
 
-pub rested-is : (plan : Plan) (scene : Scene) (k : ℕ) (asked : Bool) (p : Ptc) {fate new orbit : ℕ} {free passes sent : Bool} {counts : Counts}
+pub rested-is : (gap : Gap) (code : ℕ) (scene : Scene) (k : ℕ) (asked : Bool) (p : Ptc) {fate new : ℕ} {free passes sent : Bool} {counts : Counts}
     → free ≡ freeIn scene (p .state)
-    → fate ≡ fateOf (plan .gap) (scene .number) (p .state) (eqb k (scene .holder)) 0 free
+    → fate ≡ fateOf gap (scene .number) (p .state) (eqb k (scene .holder)) 0 free
     → passes ≡ eqb fate 0
     → sent ≡ (asked && passes)
     → counts ≡ requestedOf asked fate (p .counts)
     → new ≡ one sent
-    → orbit ≡ orbitCode (plan .at) (scene .number)
     → _≡_ {A = Crossed}
     (record {
       ptc = record { state = p .state; wait = p .wait; cycle = p .cycle; counts = counts; events = p .events + new };
-      code = orbit;
+      code = code;
       sent = sent;
       cal = false;
     })
-    (restedOf plan scene k asked p)
+    (restedOf gap code scene k asked p)
 unfolding restedOf
-rested-is plan scene k asked p frees falls passing sends counting adds orbiting = rw (orbiting, adds, counting, sends, passing, falls, frees)
+rested-is gap code scene k asked p frees falls passing sends counting adds = rw (adds, counting, sends, passing, falls, frees)

@@ -10,7 +10,9 @@ use borrow.Author.Tests.{eqb-true, lt-ltb}
 use lib.Dec.{eqb}
 use Rattle.laws.proofs.Bools.{both}
 use Rattle.laws.proofs.Tests.{either}
+use Rattle.settings.specs.declared.names.Gap.{Gap}
 use Rattle.settings.specs.declared.names.Schedule.{Schedule}
+use Rattle.settings.specs.declared.names.Waits.{Waits}
 use Rattle.states.specs.Names.{running}
 use Rattle.states.specs.Moves.{movedOf, orbitCode}
 use Rattle.states.specs.support.Rest.{resting}
@@ -52,31 +54,22 @@ code-orbit zero = refl
 code-orbit (suc n) = rw (lt-ltb 0 (suc n) (omega arith))
 
 pub rest-crossed : (plan : Plan) (scene : Scene) (k class : ℕ) (asked : Bool) (p : Ptc) → atRest class p ≡ true
-    → crossedOf plan scene k class asked p ≡ restedOf plan scene k asked p
+    → crossedOf plan scene k class asked p ≡ restedOf (plan .gap) (orbitCode (plan .at) (scene .number)) scene k asked p
 unfolding crossedOf restedOf openedOf cycleCode asksOf
 rest-crossed plan scene k class asked p e =
     let r = read class p e in
     rw (r .wait, r .cycle, rest-moved (plan .at) (plan .waits) k (scene .number) class (p .state) (r .stays), kept-none, counted-request, code-orbit, or-false)
 
-pub rest-state : (plan : Plan) (k number class : ℕ) (p : Ptc) → atRest class p ≡ true
-    → movedOf (plan .at) (plan .waits) k number class (p .state) (p .wait) .state ≡ p .state
-rest-state plan k number class p e =
+pub rest-state : (at : Schedule) (w : Waits) (k number class : ℕ) (p : Ptc) → atRest class p ≡ true
+    → movedOf at w k number class (p .state) (p .wait) .state ≡ p .state
+rest-state at w k number class p e =
     let r = read class p e in
-    rw (r .wait, rest-moved (plan .at) (plan .waits) k number class (p .state) (r .stays))
+    rw (r .wait, rest-moved at w k number class (p .state) (r .stays))
 
-pub rest-silent : (plan : Plan) (scene : Scene) (k : ℕ) (p : Ptc)
-    → restedOf plan scene k false p ≡ record { ptc = p; code = orbitCode (plan .at) (scene .number); sent = false; cal = false }
+pub rest-silent : (gap : Gap) (code : ℕ) (scene : Scene) (k : ℕ) (p : Ptc)
+    → restedOf gap code scene k false p ≡ record { ptc = p; code = code; sent = false; cal = false }
 unfolding restedOf requestedOf
-rest-silent plan scene k p = rw add-zero
-
-pub rest-stays : (plan : Plan) (scene : Scene) (k class : ℕ) (asked : Bool) (p : Ptc) → atRest class p ≡ true
-    → atRest class (restedOf plan scene k asked p .ptc) ≡ true
-unfolding restedOf atRest
-rest-stays plan scene k class asked p e = e
-
-pub rest-shows : (plan : Plan) (scene : Scene) (k : ℕ) (asked : Bool) (p : Ptc) → restedOf plan scene k asked p .ptc .state ≡ p .state
-unfolding restedOf
-rest-shows plan scene k asked p = refl
+rest-silent gap code scene k p = rw add-zero
 
 -- a cycle of another than the holder is not open
 unheld-asks : (at : Schedule) (number s c : ℕ) → asksOf at number (openedOf at number false (keptOf s false c)) ≡ false

@@ -22,7 +22,9 @@ ghost use Rattle.ptc.specs.Counts.{noCounts};
 ghost use Rattle.ptc.specs.support.Room.{Room};
 ghost use Rattle.ptc.specs.Fresh.{freshPtc};
 ghost use Rattle.ptc.specs.Crossing.{freeIn, codeOf, eventsOf, crossedOf};
+ghost use Rattle.states.specs.Moves.{orbitCode};
 ghost use Rattle.ptc.specs.support.Rest.{atRest, restedOf};
+ghost use Rattle.ptc.specs.support.Times.{scheduleFrom, planFrom};
 ghost use Rattle.ptc.specs.Command.{armedPtc, ledPtc, commandedOf};
 
 pub struct Ptc {
@@ -61,6 +63,37 @@ pub struct Crossed {
 pub struct Commanded {
     pub ptc: Ptc,
     pub taken: bool,
+}
+
+// Controller k's schedule, of those of all eight.
+pub fn schedule_of(times: &[u32; 88], k: u32) -> Schedule
+    ensures { λ r. ⌜ r ≡ scheduleFrom (now (times .entry)) k ⌝ }
+{
+    let a = 11 * (k % 8) as usize;
+    Schedule {
+        bc0: times[a],
+        te: times[a + 1],
+        resync: times[a + 2],
+        hard: times[a + 3],
+        ec0: times[a + 4],
+        oc0: times[a + 5],
+        start: times[a + 6],
+        stop: times[a + 7],
+        gap: times[a + 8],
+        wte: times[a + 9],
+        cal: times[a + 10],
+    }
+}
+
+// The code that it sends at this number in every state.
+fn orbit_code_of(times: &[u32; 88], k: u32, number: u32) -> u8
+    ensures { λ r. ⌜ r ≡ orbitCode (scheduleFrom (now (times .entry)) k) number ⌝ }
+{
+    let a = 11 * (k % 8) as usize;
+    if number == times[a] {
+        return 1;
+    }
+    if number == times[a + 8] { 11 } else { 0 }
 }
 
 impl Scene {
@@ -129,13 +162,30 @@ impl Ptc {
     }
 
     // Steps 3 and 4 of a crossing. Most controllers are at rest, and then there is little to do.
-    pub fn crossed(self, plan: Plan, scene: Scene, k: u32, class: u8, asked: bool) -> Crossed
+    // The schedules are lent: a controller at rest looks at two numbers of its own.
+    pub fn crossed(
+        self,
+        times: &[u32; 88],
+        waits: Waits,
+        gap: Gap,
+        scene: Scene,
+        k: u32,
+        class: u8,
+        asked: bool,
+    ) -> Crossed
         requires { ⌜ Room self ⌝ }
-        ensures { λ r. ⌜ r ≡ crossedOf plan scene k class asked self ⌝ }
+        ensures { λ r. ⌜ r ≡ crossedOf (planFrom (now (times .entry)) waits gap k) scene k class asked self ⌝ }
     {
         if self.is_at_rest(class) {
-            return self.rested(plan, scene, k, asked);
+            let code = orbit_code_of(times, k, scene.number);
+            return self.rested(gap, code, scene, k, asked);
         }
+        let at = schedule_of(times, k);
+        let plan = Plan {
+            at: at,
+            waits: waits,
+            gap: gap,
+        };
         self.moved(plan, scene, k, class, asked)
     }
 
@@ -186,14 +236,14 @@ impl Ptc {
     }
 
     // A crossing of a controller at rest: only a request changes it.
-    fn rested(self, plan: Plan, scene: Scene, k: u32, asked: bool) -> Crossed
+    fn rested(self, gap: Gap, code: u8, scene: Scene, k: u32, asked: bool) -> Crossed
         requires { ⌜ Room self ⌝ }
-        ensures { λ r. ⌜ r ≡ restedOf plan scene k asked self ⌝ }
+        ensures { λ r. ⌜ r ≡ restedOf gap code scene k asked self ⌝ }
     {
         let number = scene.number;
         let free = scene.free_in(self.state);
         let fate = counts::fate(
-            plan.gap,
+            gap,
             number,
             self.state,
             k == scene.holder,
@@ -211,7 +261,7 @@ impl Ptc {
         };
         Crossed {
             ptc: ptc,
-            code: states::orbit_code(plan.at, number),
+            code: code,
             sent: sent,
             cal: false,
         }

@@ -2,22 +2,20 @@
 use cases::say;
 use cases::say_number;
 use ptc::Counts;
-use ptc::Plan;
 use ptc::Ptc;
 use ptc::Scene;
 use settings::Settings;
 ghost use Rattle.ptc.specs.support.Room.{Room};
 
-fn standard_plan() -> Plan {
-    let s = Settings::standard();
-    let at = s.schedule(0);
-    let waits = s.waits();
-    let gap = s.gap();
-    Plan {
-        at: at,
-        waits: waits,
-        gap: gap,
+fn standard_times() -> [u32; 88] {
+    let v = Settings::standard().values;
+    let mut times = [0u32; 88];
+    let mut n = 0;
+    while n < 88 {
+        times[n] = v[28 + n];
+        n += 1;
     }
+    times
 }
 
 fn in_state(state: u8, wait: u32, cycle: u8) -> Ptc
@@ -41,7 +39,10 @@ fn say_crossing(k: u32, state: u8, wait: u32, number: u32, class: u8) {
         norm: true,
         low: true,
     };
-    let r = in_state(state, wait, 0).crossed(standard_plan(), scene, k, class, false);
+    let s = Settings::standard();
+    let times = standard_times();
+    let p = in_state(state, wait, 0);
+    let r = p.crossed(&times, s.waits(), s.gap(), scene, k, class, false);
     say_number(b"", r.ptc.state as u64);
     if 0 < r.ptc.wait {
         say_number(b"w", r.ptc.wait as u64);
@@ -105,7 +106,7 @@ fn say_waits() {
 
 // The state, wait and cycle after a command, or a dash where it is not taken.
 fn say_command(state: u8, cycle: u8, command: u8) {
-    let r = in_state(state, 0, cycle).command(standard_plan().waits, command);
+    let r = in_state(state, 0, cycle).command(Settings::standard().waits(), command);
     if !r.taken {
         say(b" -");
         return;

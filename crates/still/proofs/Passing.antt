@@ -166,4 +166,4 @@ pub passed-over : (plan : Plan) (scene : Scene) (classes : List ℕ) (requests k
     → actOf plan scene classes requests k p ≡ record { ptc = p; code = 0; sent = false; cal = false }
 unfolding actOf
 passed-over plan scene classes requests k p rests plain silent =
-    rest-crossed plan scene k (getD classes k 0) _ p rests ∙ rw silent (rest-silent plan scene k p ∙ rw plain)
+    rest-crossed plan scene k (getD classes k 0) _ p rests ∙ rw silent (rest-silent (plan .gap) _ scene k p ∙ rw plain)

@@ -1,6 +1,6 @@
 -- What the code lets all eight see is what they would see of the whole throttle: it comes to the same crossing for each of them.
 -- Another than the holder, or a holder that does not ask, does not look at the rules; one that asks looks at them in the state after its move.
-use mathlib.Core.Path.{_≡_, refl, sym}
+use mathlib.Core.Path.{_≡_, refl, sym, ap, _∙_}
 use mathlib.Core.Logic.{inl, inr, ⊎-elim}
 use mathlib.Core.Bool.{Bool, true, false, not, _||_, false≢true}
 use mathlib.Core.List.{List}
@@ -11,7 +11,9 @@ use lib.Dec.{eqb}
 use lib.ListN.{getD}
 use Rattle.laws.specs.Base.{if}
 use Rattle.laws.proofs.Tests.{either, same-or-not}
+use Rattle.settings.specs.declared.names.Gap.{Gap}
 use Rattle.settings.specs.declared.names.Rules.{Rules}
+use Rattle.settings.specs.declared.names.Waits.{Waits}
 use Rattle.throttle.specs.Rules.{free}
 use Rattle.clock.specs.declared.Clock.{Clock}
 use Rattle.clock.specs.Clock.{numberOf}
@@ -21,6 +23,7 @@ use Rattle.ptc.specs.declared.Ptc.{Ptc}
 use Rattle.ptc.specs.declared.Plan.{Plan}
 use Rattle.ptc.specs.declared.Scene.{Scene}
 use Rattle.ptc.specs.Crossing.{freeIn}
+use Rattle.ptc.specs.support.Times.{scheduleFrom, planFrom}
 use Rattle.ptc.specs.Fresh.{freshPtc}
 use Rattle.ptc.proofs.Rest.{unasked-scene, moved-scene}
 use Rattle.records.specs.Records.{askedIn}
@@ -36,12 +39,15 @@ neither : (a b : Bool) → a || b ≡ false → (a ≡ false) × (b ≡ false)
 neither true b e = absurd (false≢true (sym e))
 neither false b e = (refl, e)
 
-module _ (plans : ℕ → Plan) (rules : Rules) (blocks : Bool) (sight : Sight) (marks : List ℕ) (clock : Clock) (ps : List Ptc) where
+module _ (times : List ℕ) (waits : Waits) (gap : Gap) (rules : Rules) (blocks : Bool) (sight : Sight) (marks : List ℕ) (clock : Clock) (ps : List Ptc) where
+  abbrev plans : ℕ → Plan
+  plans = planFrom times waits gap
+
   abbrev holding : Ptc
   holding = getD ps (sight .turn .holder % 8) freshPtc
 
   abbrev seen : Scene
-  seen = sceneFor (plans (sight .turn .holder % 8)) rules blocks holding sight marks clock
+  seen = sceneFor times waits rules blocks holding sight marks clock
 
   -- the whole throttle
   abbrev pub wholeScene : Scene
@@ -68,12 +74,22 @@ module _ (plans : ℕ → Plan) (rules : Rules) (blocks : Bool) (sight : Sight) 
   movesTo k =
       movedOf (plans k .at) (plans k .waits) k (numberOf clock (sight .marker)) (getD (sight .classes) k 0) (getD ps k freshPtc .state) (getD ps k freshPtc .wait) .state
 
+  -- the state that the holder moves to
+  abbrev heldTo : ℕ
+  heldTo =
+      let holder = sight .turn .holder in
+      movedOf (scheduleFrom times holder) waits holder (numberOf clock (sight .marker)) (getD (sight .classes) (holder % 8) 0) (holding .state) (holding .wait) .state
+
+  same-move : (k : ℕ) → k ≡ sight .turn .holder → k < 8 → heldTo ≡ movesTo k
+  same-move k e h =
+      let z : k % 8 ≡ k = omega arith in
+      let to : ℕ → ℕ → ℕ = λ x y.
+      movedOf (scheduleFrom times x) waits x (numberOf clock (sight .marker)) (getD (sight .classes) y 0) (getD ps y freshPtc .state) (getD ps y freshPtc .wait) .state in
+      ap (λ (x : ℕ). to x (x % 8)) (sym e) ∙ ap (to k) z
+
   own-free : (k : ℕ) → k ≡ sight .turn .holder → k < 8 → asks ≡ true → freeIn seen (movesTo k) ≡ freeIn wholeScene (movesTo k)
   unfolding sceneFor asks
-  own-free k e h a =
-      let z : k % 8 ≡ k = omega arith in
-      let asked = rw (← e, z) at a in
-      rw (← e, z, asked) (by-state (λ w. free rules blocks marks (clock .crossings) w) (movesTo k))
+  own-free k e h a = rw (a, same-move k e h) (by-state (λ w. free rules blocks marks (clock .crossings) w) (movesTo k))
 
   idle : (k : ℕ) → k ≡ sight .turn .holder → k < 8 → asks ≡ false → (askedIn (sight .requests) k ≡ false) × (getD ps k freshPtc .cycle ≡ 0)
   unfolding asks

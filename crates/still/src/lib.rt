@@ -2,11 +2,11 @@
 // controller where it was, and then only those that ask matter.
 use clock::Clock;
 use clock::Turn;
-use ptc::Plan;
 use ptc::Ptc;
 use ptc::Scene;
 use records::RECORD;
 use settings::Rules;
+use settings::Waits;
 ghost use mathlib.Core.Path.{_≡_};
 ghost use mathlib.Core.Bool.{true, not, _||_};
 ghost use Prim.Native.Nat.{ℕ, _+_, _*_, _%_, _<_, _≤_};
@@ -19,6 +19,7 @@ ghost use Rattle.throttle.specs.Rules.{Sensible};
 ghost use Rattle.clock.specs.support.Room.{SlotRoom};
 ghost use Rattle.states.specs.Moves.{movedOf};
 ghost use Rattle.records.specs.Records.{recAt, codesIn, askedIn};
+ghost use Rattle.ptc.specs.support.Times.{scheduleFrom};
 ghost use Rattle.kit.specs.support.Laid.{plainIn};
 ghost use Rattle.still.specs.support.Still.{dueOf, nextDue};
 ghost use Rattle.still.specs.support.Sight.{sightOf, sceneFor, firstSight};
@@ -139,13 +140,14 @@ fn asks(p: Ptc, holder: u32, requests: u8) -> bool
 }
 
 // Whether the holder is in WARN after its move.
-fn is_warned(p: Ptc, plan: Plan, number: u32, holder: u32, class: u8) -> bool
-    ensures { λ r. ⌜ r ≡ eqb (movedOf (plan .at) (plan .waits) holder number class (p .state) (p .wait) .state) 8 ⌝ }
+fn is_warned(p: Ptc, times: &[u32; 88], waits: Waits, number: u32, holder: u32, class: u8) -> bool
+    ensures { λ r. ⌜ r ≡ eqb (movedOf (scheduleFrom (now (times .entry)) holder) waits holder number class (p .state) (p .wait) .state) 8 ⌝ }
 {
     if p.is_at_rest(class) {
         return p.state == 8;
     }
-    let step = states::advance(plan.at, plan.waits, holder, number, class, p.state, p.wait);
+    let at = ptc::schedule_of(times, holder);
+    let step = states::advance(at, waits, holder, number, class, p.state, p.wait);
     step.state == 8
 }
 
@@ -153,7 +155,8 @@ impl Sight {
     // What all eight see of a crossing. Only the holder, whose value p is, can send: so the rules are looked at only where it asks.
     pub fn scene(
         self,
-        plan: Plan,
+        times: &[u32; 88],
+        waits: Waits,
         rules: Rules,
         blocks: bool,
         p: Ptc,
@@ -161,7 +164,7 @@ impl Sight {
         clock: Clock,
     ) -> Scene
         requires { ⌜ Sensible rules ⌝ }
-        ensures { λ r. ⌜ r ≡ sceneFor plan rules blocks p self (now (marks .entry)) clock ⌝ }
+        ensures { λ r. ⌜ r ≡ sceneFor (now (times .entry)) waits rules blocks p self (now (marks .entry)) clock ⌝ }
     {
         let number = clock.number(self.marker);
         let holder = self.turn.holder;
@@ -169,7 +172,7 @@ impl Sight {
         if asks(p, holder, self.requests) {
             let h = (holder % 8) as usize;
             let classes = self.classes;
-            let warn = is_warned(p, plan, number, holder, classes[h]);
+            let warn = is_warned(p, times, waits, number, holder, classes[h]);
             free = throttle::free(marks, rules, blocks, clock.crossings, warn);
         }
         Scene {

@@ -1,16 +1,20 @@
 -- What of the settings is laid out once for many crossings.
-use Prim.Native.Nat.{ℕ, zero, suc, _%_}
+use Prim.Native.Nat.{ℕ, zero, suc, _+_, _%_}
 use mathlib.Core.Bool.{Bool}
 use mathlib.Core.List.{List}
 use lib.Dec.{eqb}
 use lib.ListN.{getD, set, replicate}
 use Rattle.laws.specs.Base.{tabulate}
 use Rattle.settings.specs.declared.Settings.{Settings}
-use Rattle.settings.specs.Names.{orbitOf, rulesOf, warnBlocksOf, waitsOf, scheduleOf}
+use Rattle.settings.specs.Names.{after, orbitOf, gapOf, rulesOf, warnBlocksOf, waitsOf, scheduleOf}
 use Rattle.status.specs.support.Merger.{mergerOf}
 use Rattle.lanes.specs.support.Lanes.{tableOf}
 use Rattle.kit.specs.declared.Kit.{Kit}
-use Rattle.kit.specs.Kit.{slotsOf, planOf}
+use Rattle.kit.specs.Kit.{slotsOf}
+
+-- the numbers of all eight schedules, one after the other
+abbrev pub timesFor : Settings → List ℕ
+timesFor s = tabulate (λ n. after s (28 + n)) 0 88
 
 -- a place for each number of the longest orbit
 abbrev pub placeOf : ℕ → ℕ
@@ -32,7 +36,8 @@ unfoldable pub kitOf : Settings → Kit
 kitOf s = record {
   orbit = orbitOf s;
   waits = waitsOf s;
-  plans = tabulate (planOf s) 0 8;
+  gap = gapOf s;
+  times = timesFor s;
   rules = rulesOf s;
   blocks = warnBlocksOf s;
   lanes = tableOf (mergerOf s);

@@ -3,10 +3,9 @@ use Prim.Native.Nat.{ℕ, _+_}
 use mathlib.Core.Bool.{Bool, false, _&&_}
 use lib.Dec.{eqb}
 use Rattle.laws.specs.Base.{one}
-use Rattle.states.specs.Moves.{orbitCode}
+use Rattle.settings.specs.declared.names.Gap.{Gap}
 use Rattle.states.specs.support.Rest.{resting}
 use Rattle.ptc.specs.declared.Ptc.{Ptc}
-use Rattle.ptc.specs.declared.Plan.{Plan}
 use Rattle.ptc.specs.declared.Scene.{Scene}
 use Rattle.ptc.specs.declared.Crossed.{Crossed}
 use Rattle.ptc.specs.Cycle.{NONE}
@@ -18,13 +17,13 @@ unfoldable pub atRest : ℕ → Ptc → Bool
 atRest class p = eqb (p .wait) 0 && (eqb (p .cycle) NONE && resting class (p .state))
 
 -- a request's fate at a controller without a cycle
-abbrev pub fateAt : Plan → Scene → ℕ → Ptc → ℕ
-fateAt plan scene k p = fateOf (plan .gap) (scene .number) (p .state) (eqb k (scene .holder)) NONE (freeIn scene (p .state))
+abbrev pub fateAt : Gap → Scene → ℕ → Ptc → ℕ
+fateAt gap scene k p = fateOf gap (scene .number) (p .state) (eqb k (scene .holder)) NONE (freeIn scene (p .state))
 
--- only a request changes it: its counts and events
-unfoldable pub restedOf : Plan → Scene → ℕ → Bool → Ptc → Crossed
-restedOf plan scene k asked p =
-    let fate = fateAt plan scene k p in
+-- only a request changes it: its counts and events; the code is the orbit's
+unfoldable pub restedOf : (gap : Gap) (code : ℕ) (scene : Scene) (k : ℕ) (asked : Bool) (p : Ptc) → Crossed
+restedOf gap code scene k asked p =
+    let fate = fateAt gap scene k p in
     let sent = asked && eqb fate SENT in
     record {
       ptc = record {
@@ -34,7 +33,7 @@ restedOf plan scene k asked p =
         counts = requestedOf asked fate (p .counts);
         events = p .events + one sent;
       };
-      code = orbitCode (plan .at) (scene .number);
+      code = code;
       sent = sent;
       cal = false;
     }

@@ -5,6 +5,7 @@ use mathlib.Core.List.{List}
 use lib.Dec.{eqb}
 use lib.ListN.{getD}
 use Rattle.settings.specs.declared.names.Rules.{Rules}
+use Rattle.settings.specs.declared.names.Waits.{Waits}
 use Rattle.lanes.specs.support.Lanes.{laneClasses}
 use Rattle.words.specs.Same.{sameBytes}
 use Rattle.steady.specs.Steady.{believedOf}
@@ -16,8 +17,8 @@ use Rattle.clock.specs.Turn.{turnedOf}
 use Rattle.states.specs.Names.{WARN}
 use Rattle.states.specs.Moves.{movedOf}
 use Rattle.ptc.specs.declared.Ptc.{Ptc}
-use Rattle.ptc.specs.declared.Plan.{Plan}
 use Rattle.ptc.specs.declared.Scene.{Scene}
+use Rattle.ptc.specs.support.Times.{scheduleFrom}
 use Rattle.records.specs.Records.{markerIn, askedIn, codesIn}
 use Rattle.still.specs.declared.Sight.{Sight}
 use Rattle.still.specs.support.Still.{dueOf}
@@ -40,13 +41,13 @@ sightOf busy table slots clock turn calm carried believed rec =
       due = dueOf (calm && sameBytes 21 believed next) busy (numberOf clock marker) (getD rec 2 0);
     }
 
--- what all eight see, p being the holder and plan its own: where it asks, the rules by the limits of the state that it moves to
-unfoldable pub sceneFor : (plan : Plan) (rules : Rules) (blocks : Bool) (p : Ptc) (sight : Sight) (marks : List ℕ) (clock : Clock) → Scene
-sceneFor plan rules blocks p sight marks clock =
+-- what all eight see, p being the holder: where it asks, the rules by the limits of the state that it moves to
+unfoldable pub sceneFor : (times : List ℕ) (waits : Waits) (rules : Rules) (blocks : Bool) (p : Ptc) (sight : Sight) (marks : List ℕ) (clock : Clock) → Scene
+sceneFor times waits rules blocks p sight marks clock =
     let number = numberOf clock (sight .marker) in
     let holder = sight .turn .holder in
     let place = holder % 8 in
-    let moved = movedOf (plan .at) (plan .waits) holder number (getD (sight .classes) place 0) (p .state) (p .wait) in
+    let moved = movedOf (scheduleFrom times holder) waits holder number (getD (sight .classes) place 0) (p .state) (p .wait) in
     let asks = askedIn (sight .requests) place || not (eqb (p .cycle) 0) in
     let now = asks && free rules blocks marks (clock .crossings) (eqb (moved .state) WARN) in
     record { number = number; holder = holder; norm = now; low = now }

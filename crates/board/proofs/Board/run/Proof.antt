@@ -29,27 +29,27 @@ use Rattle.board.proofs.Board.run.Statement.{statement}
 use Rattle.board.proofs.Board.run.Tie as tie
 
 abbrev Inv-loop2 : tie.InvT-loop2
-Inv-loop2 log n rows self₀ kit slots plans busy clock carried believed sight shown₀ calm₀ i classes own scene bytes₀ k₀ self shown calm bytes k =
+Inv-loop2 log n rows self₀ kit slots busy clock carried believed sight shown₀ calm₀ i classes scene bytes₀ k₀ self shown calm bytes k =
     (self ≡ withPtcs self₀ (self .ptcs))
     × (Acting (plansIn kit) scene (sight .classes) (sight .requests) (sight .due) (self₀ .ptcs) shown₀ k (self .ptcs) bytes shown calm)
 
 abbrev μ-loop2 : tie.MeasureT-loop2
-μ-loop2 log n rows self₀ kit slots plans busy clock carried believed sight shown₀ calm₀ i classes own scene bytes₀ k₀ self shown calm bytes k = 8 - k
+μ-loop2 log n rows self₀ kit slots busy clock carried believed sight shown₀ calm₀ i classes scene bytes₀ k₀ self shown calm bytes k = 8 - k
 
 abbrev Inv-loop : tie.InvT-loop
-Inv-loop log n rows₀ self₀ kit slots plans busy clock₀ carried₀ believed₀ sight₀ shown₀ calm₀ i₀ rows self clock carried believed sight shown calm i =
+Inv-loop log n rows₀ self₀ kit slots busy clock₀ carried₀ believed₀ sight₀ shown₀ calm₀ i₀ rows self clock carried believed sight shown calm i =
     Stands self₀ log n rows₀ kit rows self clock (record { carried = carried; believed = believed }) sight shown calm i
 
 abbrev μ-loop : tie.MeasureT-loop
-μ-loop log n rows₀ self₀ kit slots plans busy clock₀ carried₀ believed₀ sight₀ shown₀ calm₀ i₀ rows self clock carried believed sight shown calm i = n - i
+μ-loop log n rows₀ self₀ kit slots busy clock₀ carried₀ believed₀ sight₀ shown₀ calm₀ i₀ rows self clock carried believed sight shown calm i = n - i
 
 -- ---- the ways back: to the turn's begin, to where the record was found a crossing, and to where it was looked at
 
 abbrev start : tie.In-loop Inv-loop2 μ-loop2 Inv-loop μ-loop → tie.Start Inv-loop2 μ-loop2 Inv-loop μ-loop
-start c = c .before .before .before .before .before .before .before .before .before .before .before .before .before .before .before .before .before .before .before .before
+start c = c .before .before .before .before .before .before .before .before .before .before .before .before .before .before .before .before .before .before .before
 
 abbrev making : tie.In-loop Inv-loop2 μ-loop2 Inv-loop μ-loop → tie.After-of Inv-loop2 μ-loop2 Inv-loop μ-loop
-making c = c .before .before .before .before .before .before .before .before .before .before .before .before .before .before .before .before
+making c = c .before .before .before .before .before .before .before .before .before .before .before .before .before .before .before
 
 abbrev marking : tie.In-loop Inv-loop2 μ-loop2 Inv-loop μ-loop → tie.After-busy-of Inv-loop2 μ-loop2 Inv-loop μ-loop
 marking c = c .before .before .before .before .before .before .before .before .before .before .before .before
@@ -61,13 +61,13 @@ abbrev crossing : tie.After-next Inv-loop2 μ-loop2 Inv-loop μ-loop → tie.Els
 crossing c = c .before .before .before .before .before .before .before
 
 abbrev looking : tie.After-scene Inv-loop2 μ-loop2 Inv-loop μ-loop → tie.After-next Inv-loop2 μ-loop2 Inv-loop μ-loop
-looking c = c .before .before .before .before .before .before .before .before
+looking c = c .before .before .before .before .before .before .before .before .before .before
 
 abbrev seeing : tie.In-loop2 Inv-loop2 μ-loop2 Inv-loop μ-loop → tie.After-scene Inv-loop2 μ-loop2 Inv-loop μ-loop
 seeing c = c .before .before .before
 
 abbrev acting : tie.After-crossed Inv-loop2 μ-loop2 Inv-loop μ-loop → tie.In-loop2 Inv-loop2 μ-loop2 Inv-loop μ-loop
-acting c = c .before .before .before .before
+acting c = c .before .before .before .before .before .before .before
 
 -- ---- what is known there
 
@@ -163,7 +163,7 @@ told : (c : tie.After-crossed Inv-loop2 μ-loop2 Inv-loop μ-loop) →
     let l = acting c in
     let n = looking (seeing l) .next .result in
     c .crossed .result ≡ actOf (plansIn (making (turn (seeing l)) .of .result) (l .before .loop2 .k)) (seeing l .scene .result) (n .classes) (n .requests) (l .before .loop2 .k) (getD (l .before .loop2 .self .ptcs) (l .before .loop2 .k) freshPtc)
-told c = acted _ _ _ _ _ _ _ _ (c .before .before .asked .ensures) (c .crossed .ensures)
+told c = acted _ _ _ _ _ _ _ _ (c .before .before .before .before .before .asked .ensures) (c .crossed .ensures)
 
 acted-at : (c : tie.After-loop2 Inv-loop2 μ-loop2 Inv-loop μ-loop) →
     let s = c .before .before .before in
@@ -184,10 +184,10 @@ busy-of-requires : tie.Need-busy-of-requires Inv-loop2 μ-loop2 Inv-loop μ-loop
 busy-of-requires c κs = search needs
 
 first-requires : tie.Need-first-requires Inv-loop2 μ-loop2 Inv-loop μ-loop
-first-requires c κs = let a = c .before .before .before .before .before .before .before .before .before .before .before .before .before .before .before .before .before in (carried-long a, believed-long a, believed-low (first-held a) (held-sound a))
+first-requires c κs = let a = c .before .before .before .before .before .before .before .before .before .before .before .before .before .before .before .before in (carried-long a, believed-long a, believed-low (first-held a) (held-sound a))
 
 loop-holds : tie.Need-loop-holds Inv-loop2 μ-loop2 Inv-loop μ-loop
-loop-holds c = stands-first _ _ _ _ _ _ (coded-at (c .before .before .before .before .before .before .before .before .before .before .before .before .before .before .before .before .before .before) (c .first .ensures .1) (c .first .ensures .2)) (c .first .ensures .0)
+loop-holds c = stands-first _ _ _ _ _ _ (coded-at (c .before .before .before .before .before .before .before .before .before .before .before .before .before .before .before .before .before) (c .first .ensures .1) (c .first .ensures .2)) (c .first .ensures .0)
 
 mul-if1 : tie.Need-mul-if1 Inv-loop2 μ-loop2 Inv-loop μ-loop
 mul-if1 c = search (needs, fits c)
@@ -264,8 +264,8 @@ loop-again c =
 next-requires : tie.Need-next-requires Inv-loop2 μ-loop2 Inv-loop μ-loop
 next-requires c κs = next-asked (begun (c .before .before .before .before .before .before .before .before)) (crossed-at (c .before .before .before .before .before .before))
 
-cast-own : tie.Need-cast-own Inv-loop2 μ-loop2 Inv-loop μ-loop
-cast-own c = search needs
+cast-h : tie.Need-cast-h Inv-loop2 μ-loop2 Inv-loop μ-loop
+cast-h c = search needs
 
 mul-h : tie.Need-mul-h Inv-loop2 μ-loop2 Inv-loop μ-loop
 mul-h c = search needs
@@ -273,14 +273,8 @@ mul-h c = search needs
 element-copy-out-h : tie.Need-element-copy-out-h Inv-loop2 μ-loop2 Inv-loop μ-loop
 element-copy-out-h c = search needs
 
-mul-plan : tie.Need-mul-plan Inv-loop2 μ-loop2 Inv-loop μ-loop
-mul-plan c = search needs
-
-array-copy-out-plan : tie.Need-array-copy-out-plan Inv-loop2 μ-loop2 Inv-loop μ-loop
-array-copy-out-plan c = search needs
-
 scene-requires : tie.Need-scene-requires Inv-loop2 μ-loop2 Inv-loop μ-loop
-scene-requires c κs = rules-asked (begun (c .before .before .before .before .before .before .before .before .before .before .before .before .before .before .before .before)) (crossed-at (c .before .before .before .before .before .before .before .before .before .before .before .before .before .before))
+scene-requires c κs = rules-asked (begun (c .before .before .before .before .before .before .before .before .before .before .before .before .before .before .before .before .before .before)) (crossed-at (c .before .before .before .before .before .before .before .before .before .before .before .before .before .before .before .before))
 
 next-due-requires : tie.Need-next-due-requires Inv-loop2 μ-loop2 Inv-loop μ-loop
 next-due-requires c κs = search needs
@@ -299,12 +293,6 @@ element-copy-out-p-2 c = search needs
 asked-requires : tie.Need-asked-requires Inv-loop2 μ-loop2 Inv-loop μ-loop
 asked-requires c κs = search needs
 
-mul-plan-2 : tie.Need-mul-plan-2 Inv-loop2 μ-loop2 Inv-loop μ-loop
-mul-plan-2 c = search needs
-
-array-copy-out-plan-2 : tie.Need-array-copy-out-plan-2 Inv-loop2 μ-loop2 Inv-loop μ-loop
-array-copy-out-plan-2 c = search needs
-
 cast-crossed : tie.Need-cast-crossed Inv-loop2 μ-loop2 Inv-loop μ-loop
 cast-crossed c = search needs
 
@@ -313,7 +301,7 @@ array-read-crossed c = search needs
 
 crossed-requires : tie.Need-crossed-requires Inv-loop2 μ-loop2 Inv-loop μ-loop
 crossed-requires c κs =
-    let l = c .before .before .before in
+    let l = c .before .before .before .before .before .before in
     let s = seeing l in
     rw (copied l) (room-asked (begun (turn s)) (crossed-at (crossing (looking s))) (l .before .loop2 .k) (l .loop2-test .taken))
 
@@ -352,7 +340,7 @@ next-due-requires-2 c κs = search needs
 
 loop2-less : tie.Need-loop2-less Inv-loop2 μ-loop2 Inv-loop μ-loop
 loop2-less c =
-    let l = c .before .before .before .before .before .before .before .before .before .before in
+    let l = c .before .before .before .before .before .before .before .before .before .before .before .before .before in
     let s = seeing l in
     omega (arith, l .loop2-test .taken, c .next-due2 .ensures, next-after (looking s .next .result .due) (l .before .loop2 .k + 1) (low-at s) (omega (arith, l .loop2-test .taken)))
 
@@ -384,13 +372,13 @@ clock-after-requires c κs =
     clock-asked (begun (turn s)) (crossed-at (crossing (looking s)))
 
 mul-put-row-2 : tie.Need-mul-put-row-2 Inv-loop2 μ-loop2 Inv-loop μ-loop
-mul-put-row-2 c = search (needs, fits (c .before .before .before .before .before .before .before .before .before .before .before .before .before .before .before .before .before .before .before .before .before .before .before .before .before))
+mul-put-row-2 c = search (needs, fits (c .before .before .before .before .before .before .before .before .before .before .before .before .before .before .before .before .before .before .before .before .before .before .before .before .before .before .before))
 
 sub-put-row-2 : tie.Need-sub-put-row-2 Inv-loop2 μ-loop2 Inv-loop μ-loop
-sub-put-row-2 c = search (needs, fits (c .before .before .before .before .before .before .before .before .before .before .before .before .before .before .before .before .before .before .before .before .before .before .before .before .before))
+sub-put-row-2 c = search (needs, fits (c .before .before .before .before .before .before .before .before .before .before .before .before .before .before .before .before .before .before .before .before .before .before .before .before .before .before .before))
 
 part-put-row-start-2 : tie.Need-part-put-row-start-2 Inv-loop2 μ-loop2 Inv-loop μ-loop
-part-put-row-start-2 c = search (needs, fits (c .before .before .before .before .before .before .before .before .before .before .before .before .before .before .before .before .before .before .before .before .before .before .before .before .before))
+part-put-row-start-2 c = search (needs, fits (c .before .before .before .before .before .before .before .before .before .before .before .before .before .before .before .before .before .before .before .before .before .before .before .before .before .before .before))
 
 part-put-row-end-2 : tie.Need-part-put-row-end-2 Inv-loop2 μ-loop2 Inv-loop μ-loop
 part-put-row-end-2 c = search needs
@@ -402,13 +390,13 @@ crossing-row-requires c κs =
     shown-fits (begun (turn s)) (crossed-at (crossing (looking s))) _ (looking s .next .ensures .0) _ (s .scene .ensures) _ _ _ _ (acted-at l)
 
 put-row-requires-2 : tie.Need-put-row-requires-2 Inv-loop2 μ-loop2 Inv-loop μ-loop
-put-row-requires-2 c κs = rw (length-take, length-drop) (omega (arith, fits (c .before .before .before .before .before .before .before .before .before .before .before .before .before .before .before .before .before .before .before .before .before .before .before .before .before .before .before)))
+put-row-requires-2 c κs = rw (length-take, length-drop) (omega (arith, fits (c .before .before .before .before .before .before .before .before .before .before .before .before .before .before .before .before .before .before .before .before .before .before .before .before .before .before .before .before .before)))
 
 add-i-2 : tie.Need-add-i-2 Inv-loop2 μ-loop2 Inv-loop μ-loop
-add-i-2 c = search (needs, fits (c .before .before .before .before .before .before .before .before .before .before .before .before .before .before .before .before .before .before .before .before .before .before .before .before .before .before .before .before .before .before))
+add-i-2 c = search (needs, fits (c .before .before .before .before .before .before .before .before .before .before .before .before .before .before .before .before .before .before .before .before .before .before .before .before .before .before .before .before .before .before .before .before))
 
 loop-less-2 : tie.Need-loop-less-2 Inv-loop2 μ-loop2 Inv-loop μ-loop
-loop-less-2 c = search (needs, (c .before .before .before .before .before .before .before .before .before .before .before .before .before .before .before .before .before .before .before .before .before .before .before .before .before .before .before .before .before .before) .loop-test .taken)
+loop-less-2 c = search (needs, (c .before .before .before .before .before .before .before .before .before .before .before .before .before .before .before .before .before .before .before .before .before .before .before .before .before .before .before .before .before .before .before .before) .loop-test .taken)
 
 loop-again-2 : tie.Need-loop-again-2 Inv-loop2 μ-loop2 Inv-loop μ-loop
 loop-again-2 c =
@@ -425,7 +413,7 @@ same-length c = search needs
 returns : tie.Need-returns Inv-loop2 μ-loop2 Inv-loop μ-loop
 returns c =
     let l = c .before .before .loop in
-    let e : l .i ≡ c .before .before .before .before .before .before .before .before .before .before .before .before .before .before .before .before .before .before .before .before .before .args .n = omega (arith, c .before .loop-test .left, l .inv .most) in
+    let e : l .i ≡ c .before .before .before .before .before .before .before .before .before .before .before .before .before .before .before .before .before .before .before .before .args .n = omega (arith, c .before .loop-test .left, l .inv .most) in
     (rw (← e) (l .inv .board), rw (← e) (l .inv .laidOut))
 
 pub run-spec : {M : Type 1} → statement M
@@ -464,19 +452,15 @@ run-spec =
     loop-less
     loop-again
     next-requires
-    cast-own
+    cast-h
     mul-h
     element-copy-out-h
-    mul-plan
-    array-copy-out-plan
     scene-requires
     next-due-requires
     loop2-holds
     mul-p-2
     element-copy-out-p-2
     asked-requires
-    mul-plan-2
-    array-copy-out-plan-2
     cast-crossed
     array-read-crossed
     crossed-requires

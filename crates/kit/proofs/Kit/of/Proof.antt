@@ -1,4 +1,4 @@
--- `Kit::of` meets its contract: its seven parts, each as its calls ensure it.
+-- `Kit::of` meets its contract: its eight parts, each as its calls ensure it.
 -- A literal of what the calls return.
 use borrow.Author.Needs.{needs}
 use Rattle.kit.specs.support.Laid.{kitOf}
@@ -8,8 +8,11 @@ use Rattle.kit.proofs.Kit.of.Tie as tie
 waits-requires : tie.Need-waits-requires
 waits-requires c κs = search needs
 
-plans-of-requires : tie.Need-plans-of-requires
-plans-of-requires c κs = search needs
+gap-requires : tie.Need-gap-requires
+gap-requires c κs = search needs
+
+times-of-requires : tie.Need-times-of-requires
+times-of-requires c κs = search needs
 
 rules-requires : tie.Need-rules-requires
 rules-requires c κs = search needs
@@ -35,10 +38,11 @@ returns c =
     let slots = c .before .before in
     let table = slots .before in
     let rules = table .before .before in
-    let plans = rules .before in
-    rw (c .warn-blocks .ensures, c .before .orbit .ensures, slots .slots-of .ensures, table .table .ensures, table .before .of .ensures, rules .rules .ensures, plans .plans-of .ensures, plans .before .waits .ensures)
+    let times = rules .before in
+    let gap = times .before in
+    rw (c .warn-blocks .ensures, c .before .orbit .ensures, slots .slots-of .ensures, table .table .ensures, table .before .of .ensures, rules .rules .ensures, times .times-of .ensures, gap .gap .ensures, gap .before .waits .ensures)
 
 pub of-spec : {M : Type 1} → statement M
 of-spec =
     tie.close
-    (tie.spec waits-requires plans-of-requires rules-requires of-requires table-requires slots-of-requires orbit-requires warn-blocks-requires returns)
+    (tie.spec waits-requires gap-requires times-of-requires rules-requires of-requires table-requires slots-of-requires orbit-requires warn-blocks-requires returns)

@@ -25,27 +25,23 @@ with-request-requires c κs = search needs
 one-requires : tie.Need-one-requires
 one-requires c κs = search needs
 
-add-t14 : tie.Need-add-t14
-add-t14 c =
+add-t15 : tie.Need-add-t15
+add-t15 c =
     let sent = c .before .before .before in
     omega (arith, c .before .one .ensures, one-le (sent .both .result), sent .before .before .before .before .before .pre .events)
 
-orbit-code-requires : tie.Need-orbit-code-requires
-orbit-code-requires c κs = search needs
-
 returns : tie.Need-returns
 returns c =
-    let added = c .before .before in
+    let added = c .before in
     let sent = added .before .before in
     let fate = sent .before .before in
-    rested-is _ _ _ _ _
+    rested-is _ _ _ _ _ _
     (fate .before .before .free-in .ensures)
     (fate .fate .ensures)
     (sent .before .is-sent .ensures)
     (sent .both .ensures)
     (added .before .with-request .ensures)
     (added .one .ensures)
-    (c .orbit-code .ensures)
 
 pub rested-spec : {M : Type 1} → statement M
 rested-spec =
@@ -57,6 +53,5 @@ rested-spec =
     both-requires
     with-request-requires
     one-requires
-    add-t14
-    orbit-code-requires
+    add-t15
     returns)

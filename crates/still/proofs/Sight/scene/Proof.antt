@@ -8,20 +8,21 @@ use borrow.Author.Needs.{needs}
 use lib.Dec.{eqb}
 use lib.ListN.{getD}
 use Rattle.settings.specs.declared.names.Rules.{Rules}
+use Rattle.settings.specs.declared.names.Waits.{Waits}
 use Rattle.throttle.specs.Rules.{free}
 use Rattle.clock.specs.declared.Clock.{Clock}
 use Rattle.clock.specs.Clock.{numberOf}
 use Rattle.states.specs.Moves.{movedOf}
 use Rattle.ptc.specs.declared.Ptc.{Ptc}
-use Rattle.ptc.specs.declared.Plan.{Plan}
 use Rattle.ptc.specs.declared.Scene.{Scene}
+use Rattle.ptc.specs.support.Times.{scheduleFrom}
 use Rattle.records.specs.Records.{askedIn}
 use Rattle.still.specs.declared.Sight.{Sight}
 use Rattle.still.specs.support.Sight.{sceneFor}
 use Rattle.still.proofs.Sight.scene.Statement.{statement}
 use Rattle.still.proofs.Sight.scene.Tie as tie
 
-module _ (plan : Plan) (rules : Rules) (blocks : Bool) (p : Ptc) (sight : Sight) (marks : List ℕ) (clock : Clock) (number : ℕ) where
+module _ (times : List ℕ) (waits : Waits) (rules : Rules) (blocks : Bool) (p : Ptc) (sight : Sight) (marks : List ℕ) (clock : Clock) (number : ℕ) where
   abbrev asks : Bool
   asks = askedIn (sight .requests) (sight .turn .holder % 8) || not (eqb (p .cycle) 0)
 
@@ -29,12 +30,12 @@ module _ (plan : Plan) (rules : Rules) (blocks : Bool) (p : Ptc) (sight : Sight)
   seeing now = record { number = number; holder = sight .turn .holder; norm = now; low = now }
 
   asked-is : (warn now : Bool) → number ≡ numberOf clock (sight .marker) → asks ≡ true
-      → warn ≡ eqb (movedOf (plan .at) (plan .waits) (sight .turn .holder) number (getD (sight .classes) (sight .turn .holder % 8) 0) (p .state) (p .wait) .state) 8
-      → now ≡ free rules blocks marks (clock .crossings) warn → seeing now ≡ sceneFor plan rules blocks p sight marks clock
+      → warn ≡ eqb (movedOf (scheduleFrom times (sight .turn .holder)) waits (sight .turn .holder) number (getD (sight .classes) (sight .turn .holder % 8) 0) (p .state) (p .wait) .state) 8
+      → now ≡ free rules blocks marks (clock .crossings) warn → seeing now ≡ sceneFor times waits rules blocks p sight marks clock
   unfolding sceneFor
   asked-is warn now n a w f = rw (f, w, n, a)
 
-  idle-is : number ≡ numberOf clock (sight .marker) → asks ≡ false → seeing false ≡ sceneFor plan rules blocks p sight marks clock
+  idle-is : number ≡ numberOf clock (sight .marker) → asks ≡ false → seeing false ≡ sceneFor times waits rules blocks p sight marks clock
   unfolding sceneFor
   idle-is n a = rw (n, a)
 
@@ -57,10 +58,10 @@ free-requires : tie.Need-free-requires
 free-requires c κs = search needs
 
 returns : tie.Need-returns
-returns c = asked-is _ _ _ _ _ _ _ _ _ _ (c .before .before .before .before .before .number .ensures) (sym (c .before .before .before .before .asks .ensures) ∙ c .before .before .before .if1 .taken) (c .before .is-warned .ensures) (c .free .ensures)
+returns c = asked-is _ _ _ _ _ _ _ _ _ _ _ (c .before .before .before .before .before .number .ensures) (sym (c .before .before .before .before .asks .ensures) ∙ c .before .before .before .if1 .taken) (c .before .is-warned .ensures) (c .free .ensures)
 
 returns-2 : tie.Need-returns-2
-returns-2 c = idle-is _ _ _ _ _ _ _ _ (c .before .before .number .ensures) (sym (c .before .asks .ensures) ∙ c .if1 .left)
+returns-2 c = idle-is _ _ _ _ _ _ _ _ _ (c .before .before .number .ensures) (sym (c .before .asks .ensures) ∙ c .if1 .left)
 
 pub scene-spec : {M : Type 1} → statement M
 scene-spec =
