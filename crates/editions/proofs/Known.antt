@@ -1,7 +1,7 @@
 -- What is known of each edition: that the code's places and sources are those of its table. A new edition is one more such fact.
 -- Each part is computed from the tables.
 use mathlib.Core.Path.{_≡_, refl, sym, ap, _∙_}
-use mathlib.Core.Bool.{Bool, true}
+use mathlib.Core.Bool.{true}
 use mathlib.Core.List.{List}
 use Prim.Native.Nat.{ℕ, zero, suc, _≤_, _<_}
 use native.Mathlib.Nat.{zero-add}
@@ -9,9 +9,9 @@ use native.Mathlib.Omega.{arith}
 use borrow.Author.Tests.{ltb-true}
 use lib.Dec.{ltb}
 use lib.ListN.{length, getD}
-use Rattle.laws.specs.Base.{allB, tabulate}
-use Rattle.laws.proofs.All.{all-get}
-use Rattle.laws.proofs.Over.{length-tabulate, getD-tabulate}
+use Rattle.laws.specs.Base.{allB, firstNot, tabulate}
+use Rattle.laws.proofs.First.{first-holds}
+use Rattle.laws.proofs.Over.{getD-tabulate}
 use Rattle.text.specs.Lines.{Entry, rangesOf, sensible}
 use Rattle.keys.specs.Settings.{newest, valueLines, tableOf}
 use Rattle.keys.specs.support.Lines.{lines, lineCount, nowhere}
@@ -19,33 +19,24 @@ use Rattle.keys.proofs.Lines.{noEntry}
 use Rattle.editions.specs.Read.{sources, laidOut}
 use Rattle.editions.specs.support.Tables.{countOf, placeOf, sourceOf}
 
--- a test at each of the first m numbers
-abbrev each : (ℕ → Bool) → ℕ → Bool
-each p m = allB p (tabulate (λ n. n) 0 m)
-
-each-at : (p : ℕ → Bool) (m n : ℕ) → each p m ≡ true → n < m → p n ≡ true
-each-at p m n all h =
-    let inside : n < length (tabulate (λ n. n) 0 m) = rw length-tabulate h in
-    rw (getD-tabulate (λ n. n) 0 m n 0 h, zero-add) at (all-get p (tabulate (λ n. n) 0 m) n 0 all inside)
-
 pub record Known (e : ℕ) : Type 0 where
   pub long : length (tableOf e) ≡ countOf e
   pub most : countOf e ≤ 149
-  pub inside : each (λ n. ltb (placeOf e n) lineCount) (countOf e) ≡ true
+  pub inside : firstNot (λ n. ltb (placeOf e n) lineCount) (countOf e) 0 ≡ countOf e
   pub entries : tabulate (λ n. getD lines (placeOf e n) noEntry) 0 (countOf e) ≡ tableOf e
   pub good : sensible (rangesOf (tableOf e)) ≡ true
   -- the values of the settings: which lines give them, and that these have their ranges
-  pub given : each (λ n. ltb (sourceOf e n) (countOf e)) 148 ≡ true
+  pub given : firstNot (λ n. ltb (sourceOf e n) (countOf e)) 148 0 ≡ 148
   pub laid : (ns : List ℕ) → laidOut e ns .values ≡ tabulate (λ n. getD ns (sourceOf e n) 0) 0 148
   pub ranges : tabulate (λ n. getD (rangesOf (tableOf e)) (sourceOf e n) nowhere) 0 148 ≡ rangesOf valueLines
 
 first : Known 1
-unfolding tableOf lines valueLines allB tabulate sources laidOut
+unfolding tableOf lines valueLines allB firstNot tabulate sources laidOut
 first =
     record { long = refl; most = omega arith; inside = refl; entries = refl; good = refl; given = refl; laid = λ ns. refl; ranges = refl }
 
 second : Known 2
-unfolding tableOf lines valueLines allB tabulate sources laidOut
+unfolding tableOf lines valueLines allB firstNot tabulate sources laidOut
 second =
     record { long = refl; most = omega arith; inside = refl; entries = refl; good = refl; given = refl; laid = λ ns. refl; ranges = refl }
 
@@ -57,11 +48,11 @@ known (suc (suc (suc e))) some most = absurd (omega arith)
 
 module _ (e : ℕ) (k : Known e) (n : ℕ) where
   pub place-inside : n < countOf e → placeOf e n < lineCount
-  place-inside h = ltb-true _ _ (each-at (λ n. ltb (placeOf e n) lineCount) (countOf e) n (k .inside) h)
+  place-inside h = ltb-true _ _ (first-holds (λ n. ltb (placeOf e n) lineCount) (countOf e) (k .inside) n h)
 
   pub entry-is : n < countOf e → getD (tableOf e) n noEntry ≡ getD lines (placeOf e n) noEntry
   entry-is h =
       ap (λ (ls : List Entry). getD ls n noEntry) (sym (k .entries)) ∙ getD-tabulate (λ n. getD lines (placeOf e n) noEntry) 0 (countOf e) n noEntry h ∙ rw zero-add
 
   pub source-inside : n < 148 → sourceOf e n < countOf e
-  source-inside h = ltb-true _ _ (each-at (λ n. ltb (sourceOf e n) (countOf e)) 148 n (k .given) h)
+  source-inside h = ltb-true _ _ (first-holds (λ n. ltb (sourceOf e n) (countOf e)) 148 (k .given) n h)

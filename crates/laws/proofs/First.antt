@@ -1,9 +1,9 @@
 -- Laws of `firstNot`: a loop that stops at the first place where the test fails finds it.
 -- The loop's invariant is `firstNot p n 0 ≡ firstNot p (n - k) k`; each law opens one place of what is left.
-use mathlib.Core.Path.{_≡_, sym, _∙_}
+use mathlib.Core.Path.{_≡_, sym, ap, _∙_}
 use mathlib.Core.Bool.{Bool, true, false}
 use Prim.Native.Nat.{ℕ, zero, suc, _+_, _-_, _≤_, _<_}
-use native.Mathlib.Nat.{sub-self, sub-zero, add-zero, add-suc, suc-add, le-of-suc-le-suc, not-suc-le-zero}
+use native.Mathlib.Nat.{sub-self, sub-zero, zero-add, add-zero, add-suc, suc-add, le-of-suc-le-suc, not-suc-le-zero}
 use native.Mathlib.Numerals.{add-one}
 use native.Mathlib.Omega.{arith}
 use Rattle.laws.specs.Base.{firstNot}
@@ -33,6 +33,10 @@ first-all p (suc n) k e zero h = rw add-zero (if-yes (p k) (firstNot p n (suc k)
 first-all p (suc n) k e (suc i) h =
     let w = if-yes (p k) (firstNot p n (suc k)) k (k + suc n) e (λ z. omega arith) in
     rw (add-suc, ← suc-add) (first-all p n (suc k) (w .1 ∙ rw (add-suc, ← suc-add)) i (le-of-suc-le-suc h))
+
+-- of the first n places
+pub first-holds : (p : ℕ → Bool) (n : ℕ) → firstNot p n 0 ≡ n → (i : ℕ) → i < n → p i ≡ true
+first-holds p n e i h = ap p (sym (zero-add i)) ∙ first-all p n 0 (e ∙ sym (zero-add n)) i h
 
 -- and the other way
 pub first-none : (p : ℕ → Bool) (n k : ℕ) → ((i : ℕ) → i < n → p (k + i) ≡ true) → firstNot p n k ≡ k + n

@@ -1,7 +1,7 @@
 -- Every name has its key: the line with that key is found in the table, at the place by which the name finds its value.
 -- Where the line is, is computed; for the slots, the partitions and the eight schedules by a test over all of them.
-use mathlib.Core.Path.{_≡_, refl, ap, sym, subst, _∙_}
-use mathlib.Core.Bool.{Bool, true}
+use mathlib.Core.Path.{_≡_, refl, ap, sym, _∙_}
+use mathlib.Core.Bool.{Bool}
 use mathlib.Core.List.{List, _++_}
 use Prim.Native.Nat.{ℕ, _+_, _*_, _%_, _<_}
 use Prim.Native.String.{String}
@@ -11,8 +11,8 @@ use borrow.Author.Tests.{eqb-true}
 use lib.Dec.{eqb}
 use lib.ListN.{length, getD, take, drop, length-take, length-drop}
 use lib.Seq.{ext-getD, getD-take, getD-drop}
-use Rattle.laws.specs.Base.{allB, tabulate, firstNot}
-use Rattle.laws.proofs.All.{all-get}
+use Rattle.laws.specs.Base.{tabulate, firstNot}
+use Rattle.laws.proofs.First.{first-holds}
 use Rattle.laws.proofs.Over.{length-tabulate, getD-tabulate}
 use Rattle.text.specs.Bytes.{bytes}
 use Rattle.text.specs.Decimal.{decimal, decimalOf}
@@ -25,78 +25,70 @@ use Rattle.naming.specs.Named.{lineOf, valueOf, valueOfNth, atKey, atVal
 abbrev standsAt : String → ℕ → ℕ → Bool
 standsAt key first n = eqb (lineOf (bytes key ++ decimal n)) (first + n)
 
-module _ (key : String) (first count : ℕ) (all : allB (standsAt key first) (tabulate (λ n. n) 0 count) ≡ true) (s : Settings) where
+module _ (key : String) (first count : ℕ) (all : firstNot (standsAt key first) count 0 ≡ count) (s : Settings) where
   nth-named : (n : ℕ) → n < count → after s (first + n) ≡ valueOfNth s key n
   unfolding valueOfNth
-  nth-named n h =
-      let inside : n < length (tabulate (λ n. n) 0 count) = rw length-tabulate h in
-      let at : standsAt key first n ≡ true =
-      rw (getD-tabulate (λ n. n) 0 count n 0 h, zero-add) at (all-get (standsAt key first) (tabulate (λ n. n) 0 count) n 0 all inside) in
-      ap (after s) (sym (eqb-true _ _ at))
+  nth-named n h = ap (after s) (sym (eqb-true _ _ (first-holds (standsAt key first) count all n h)))
 
-slots-stand : allB (standsAt "slot" 20) (tabulate (λ n. n) 0 8) ≡ true
-unfolding lineOf bytes decimal decimalOf valueLines firstNot allB tabulate
+slots-stand : firstNot (standsAt "slot" 20) 8 0 ≡ 8
+unfolding lineOf bytes decimal decimalOf valueLines firstNot
 slots-stand = refl
 
-parts-stand : allB (standsAt "part" 116) (tabulate (λ n. n) 0 32) ≡ true
-unfolding lineOf bytes decimal decimalOf valueLines firstNot allB tabulate
+parts-stand : firstNot (standsAt "part" 116) 32 0 ≡ 32
+unfolding lineOf bytes decimal decimalOf valueLines firstNot
 parts-stand = refl
 
 -- the lines of one name of the eight schedules stand eleven apart
 abbrev atStands : String → ℕ → ℕ → Bool
 atStands name j k = eqb (lineOf (atKey name k)) (28 + 11 * k + j)
 
-module _ (name : String) (j : ℕ) (all : allB (atStands name j) (tabulate (λ n. n) 0 8) ≡ true) (s : Settings) (k : ℕ) (low : k < 8) where
+module _ (name : String) (j : ℕ) (all : firstNot (atStands name j) 8 0 ≡ 8) (s : Settings) (k : ℕ) (low : k < 8) where
   number-named : after s (28 + 11 * k + j) ≡ atValue s name k
   unfolding atValue
-  number-named =
-      let inside : k < length (tabulate (λ n. n) 0 8) = rw length-tabulate low in
-      let same : getD (tabulate (λ n. n) 0 8) k 0 ≡ k = getD-tabulate (λ n. n) 0 8 k 0 low ∙ zero-add k in
-      let at = subst (λ (x : ℕ). atStands name j x ≡ true) same (all-get (atStands name j) (tabulate (λ n. n) 0 8) k 0 all inside) in
-      ap (after s) (sym (eqb-true _ _ at))
+  number-named = ap (after s) (sym (eqb-true _ _ (first-holds (atStands name j) 8 all k low)))
 
-bc0-stand : allB (atStands "bc0" 0) (tabulate (λ n. n) 0 8) ≡ true
-unfolding atKey lineOf bytes decimal decimalOf valueLines firstNot allB tabulate
+bc0-stand : firstNot (atStands "bc0" 0) 8 0 ≡ 8
+unfolding atKey lineOf bytes decimal decimalOf valueLines firstNot
 bc0-stand = refl
 
-te-stand : allB (atStands "te" 1) (tabulate (λ n. n) 0 8) ≡ true
-unfolding atKey lineOf bytes decimal decimalOf valueLines firstNot allB tabulate
+te-stand : firstNot (atStands "te" 1) 8 0 ≡ 8
+unfolding atKey lineOf bytes decimal decimalOf valueLines firstNot
 te-stand = refl
 
-resync-stand : allB (atStands "resync" 2) (tabulate (λ n. n) 0 8) ≡ true
-unfolding atKey lineOf bytes decimal decimalOf valueLines firstNot allB tabulate
+resync-stand : firstNot (atStands "resync" 2) 8 0 ≡ 8
+unfolding atKey lineOf bytes decimal decimalOf valueLines firstNot
 resync-stand = refl
 
-hard-stand : allB (atStands "hard" 3) (tabulate (λ n. n) 0 8) ≡ true
-unfolding atKey lineOf bytes decimal decimalOf valueLines firstNot allB tabulate
+hard-stand : firstNot (atStands "hard" 3) 8 0 ≡ 8
+unfolding atKey lineOf bytes decimal decimalOf valueLines firstNot
 hard-stand = refl
 
-ec0-stand : allB (atStands "ec0" 4) (tabulate (λ n. n) 0 8) ≡ true
-unfolding atKey lineOf bytes decimal decimalOf valueLines firstNot allB tabulate
+ec0-stand : firstNot (atStands "ec0" 4) 8 0 ≡ 8
+unfolding atKey lineOf bytes decimal decimalOf valueLines firstNot
 ec0-stand = refl
 
-oc0-stand : allB (atStands "oc0" 5) (tabulate (λ n. n) 0 8) ≡ true
-unfolding atKey lineOf bytes decimal decimalOf valueLines firstNot allB tabulate
+oc0-stand : firstNot (atStands "oc0" 5) 8 0 ≡ 8
+unfolding atKey lineOf bytes decimal decimalOf valueLines firstNot
 oc0-stand = refl
 
-start-stand : allB (atStands "start" 6) (tabulate (λ n. n) 0 8) ≡ true
-unfolding atKey lineOf bytes decimal decimalOf valueLines firstNot allB tabulate
+start-stand : firstNot (atStands "start" 6) 8 0 ≡ 8
+unfolding atKey lineOf bytes decimal decimalOf valueLines firstNot
 start-stand = refl
 
-stop-stand : allB (atStands "stop" 7) (tabulate (λ n. n) 0 8) ≡ true
-unfolding atKey lineOf bytes decimal decimalOf valueLines firstNot allB tabulate
+stop-stand : firstNot (atStands "stop" 7) 8 0 ≡ 8
+unfolding atKey lineOf bytes decimal decimalOf valueLines firstNot
 stop-stand = refl
 
-gap-stand : allB (atStands "gap" 8) (tabulate (λ n. n) 0 8) ≡ true
-unfolding atKey lineOf bytes decimal decimalOf valueLines firstNot allB tabulate
+gap-stand : firstNot (atStands "gap" 8) 8 0 ≡ 8
+unfolding atKey lineOf bytes decimal decimalOf valueLines firstNot
 gap-stand = refl
 
-wte-stand : allB (atStands "wte" 9) (tabulate (λ n. n) 0 8) ≡ true
-unfolding atKey lineOf bytes decimal decimalOf valueLines firstNot allB tabulate
+wte-stand : firstNot (atStands "wte" 9) 8 0 ≡ 8
+unfolding atKey lineOf bytes decimal decimalOf valueLines firstNot
 wte-stand = refl
 
-cal-stand : allB (atStands "cal" 10) (tabulate (λ n. n) 0 8) ≡ true
-unfolding atKey lineOf bytes decimal decimalOf valueLines firstNot allB tabulate
+cal-stand : firstNot (atStands "cal" 10) 8 0 ≡ 8
+unfolding atKey lineOf bytes decimal decimalOf valueLines firstNot
 cal-stand = refl
 
 module _ (s : Settings) (k : ℕ) (low : k < 8) where

@@ -1,22 +1,12 @@
 // Walks one controller through every state with every merged class and with every command, and prints where it goes.
 use cases::say;
 use cases::say_number;
+use kit::Kit;
 use ptc::Counts;
 use ptc::Ptc;
 use ptc::Scene;
 use settings::Settings;
 ghost use Rattle.ptc.specs.support.Room.{Room};
-
-fn standard_times() -> [u32; 88] {
-    let v = Settings::standard().values;
-    let mut times = [0u32; 88];
-    let mut n = 0;
-    while n < 88 {
-        times[n] = v[28 + n];
-        n += 1;
-    }
-    times
-}
 
 fn in_state(state: u8, wait: u32, cycle: u8) -> Ptc
     ensures { λ r. ⌜ Room r ⌝ }
@@ -39,10 +29,9 @@ fn say_crossing(k: u32, state: u8, wait: u32, number: u32, class: u8) {
         norm: true,
         low: true,
     };
-    let s = Settings::standard();
-    let times = standard_times();
+    let kit = Kit::of(Settings::standard());
     let p = in_state(state, wait, 0);
-    let r = p.crossed(&times, s.waits(), s.gap(), scene, k, class, false);
+    let r = p.crossed(&kit.times, kit.waits, kit.gap, scene, k, class, false);
     say_number(b"", r.ptc.state as u64);
     if 0 < r.ptc.wait {
         say_number(b"w", r.ptc.wait as u64);

@@ -4,14 +4,13 @@ use mathlib.Core.Path.{_≡_, refl, ap, sym, _∙_}
 use mathlib.Core.Logic.{⊎-elim}
 use mathlib.Core.Bool.{Bool, true, false, false≢true}
 use Prim.Native.Nat.{ℕ, zero, suc, _<_}
-use native.Mathlib.Nat.{zero-add}
 use native.Mathlib.Omega.{arith}
 use borrow.Author.Tests.{eq-eqb, ne-eqb, ltb-true, ltb-false, eqb-true}
 use lib.Dec.{eqb, ltb, lit<}
 use Rattle.laws.specs.Base.{if, firstNot}
 use Rattle.laws.proofs.Bools.{if-yes, if-no}
 use Rattle.laws.proofs.Tests.{either, same-or-not}
-use Rattle.laws.proofs.First.{first-all, first-most}
+use Rattle.laws.proofs.First.{first-holds, first-most}
 use Rattle.answer.specs.Told.{Told, DONE, RANGE, RELATION, unless, succeeded}
 use Rattle.answer.proofs.Told.{not-done}
 use Rattle.settings.specs.declared.Settings.{Settings}
@@ -74,7 +73,7 @@ each-none holds n later some e =
     (λ (t : ltb (firstNot holds 8 0) 8 ≡ true). absurd (let z : n ≡ 0 = rw t at e in omega arith))
     (λ (t : ltb (firstNot holds 8 0) 8 ≡ false).
     let all : firstNot holds 8 0 ≡ 8 = omega (arith, ltb-false (firstNot holds 8 0) 8 t, first-most holds 8 0) in
-    ((λ k h. rw zero-add at (first-all holds 8 0 all k h)), rw t at e))
+    (first-holds holds 8 all, rw t at e))
     (either (ltb (firstNot holds 8 0) 8))
 
 pub record Holding (s : Settings) : Type 0 where
