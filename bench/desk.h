@@ -14,7 +14,7 @@ enum { NONE, READY, WARNING, BUSY, OUT_OF_SYNC, ERROR, BAD, DISCONNECTED };
 enum { NO_CYCLE, ARMED, OPEN };
 enum { LOST_STATE, LOST_SLOT, LOST_GAP, LOST_CAL, LOST_THROTTLE, SENT, FATES };
 /* The places of the settings that are read by name, in the order of their lines: in set[], ... */
-enum { ORBIT, GAP_LOW, GAP_HIGH, R1_GAP, R2, R3 = R2 + 3, R4 = R3 + 3, WARN_BLOCKS = R4 + 3, IGNORE_DISC, IGNORE_BAD };
+enum { ORBIT, GAP_LOW, GAP_HIGH, R1_GAP, R2, R3 = R2 + 3, R4 = R3 + 3, IGNORE_DISC = R4 + 3, IGNORE_BAD };
 enum { SETTLE_RESYNC = IGNORE_BAD + 1, SETTLE_HARD, RECOVER_RESYNC, RECOVER_HARD, SLOT0, SETTINGS = SLOT0 + 8 };
 /* ... and in the schedule of a controller. The partitions, which come last, go to owner[]. */
 enum { BC0, TE, RESYNC, HARD, EC0, OC0, START, STOP, GAP, WTE, CAL, SCHEDULE };
@@ -53,13 +53,16 @@ static int values(FILE *text, uint32_t *to, int count) {
     return !count;
 }
 
-/* The settings of either edition: the first has no line that names it, and one schedule, which all eight go by. */
+/* The settings of any edition: the first has no line that names it, and one schedule, which all eight go by; the first two have a
+   line `warn_blocks`, and where that is 1 the low limits become 0. */
 static int read_settings(uint32_t *parts) {
-    uint32_t edition = 1;
+    uint32_t edition = 1, blocks = 0;
     FILE *text = fopen("board.set", "r");
     if (!text) return 0;
     fscanf(text, "edition=%u\n", &edition); /* takes nothing of a text that begins otherwise */
-    if (!values(text, set, SETTINGS)) return 0;
+    if (!values(text, set, IGNORE_DISC) || !values(text, &blocks, edition < 3)) return 0;
+    if (!values(text, set + IGNORE_DISC, SETTINGS - IGNORE_DISC)) return 0;
+    if (blocks) set[R2 + 2] = set[R3 + 2] = set[R4 + 2] = 0;
     for (int k = 0; k < 8; k++)
         if (k && edition == 1) memcpy(ptcs[k].at, ptcs[0].at, sizeof ptcs[0].at);
         else if (!values(text, ptcs[k].at, SCHEDULE)) return 0;

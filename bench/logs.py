@@ -14,12 +14,13 @@
     codes in pairs     a merge at every second crossing: the codes of `codes change`, each carried twice, so that all are believed
     a code bounces     as `holder asks`, with one input that carries a code in no two crossings in a row: it stays believed ready
     eight schedules    as `eight ask`, but each controller goes by its own schedule: some controller acts at every fortieth number
+    stopped by warning as `holder asks`, but under warning, with text whose `warn_blocks` is 1: every request is lost to the throttle
 
 A code counts when two crossings in a row carry it (P1), so `codes change`, `codes flip` and `anything goes`, which are older and
 had a merge at every crossing, have fewer. They stay as they were: what P1 does to the speed shows in them.
 
 Only `eight schedules` has settings that need edition 2 (P2). The others are written in edition 1, which a desk from before P2 reads
-too: what P2 does to the speed shows in them.
+too: what P2 and P3 do to the speed shows in them.
 
 A log is START for each group, three quiet orbits, in which the controllers become ready, and then ten orbits of records, which
 are repeated, since chance is slow to make. So many are not learned by the processor that README.md names: with fifty orbits the
@@ -73,6 +74,11 @@ def paired(_, n):
 def bouncing(_, n):
     """A partition with a bad connector: ready, busy, disconnected, busy."""
     return crossing(1, bytes([0x80 + (8, 4, 0, 4)[n % 4]]) + READY[1:])
+
+
+def warned(_, __):
+    """The GTFE warns, and the holder asks."""
+    return crossing(1, gtfe=1)
 
 
 def flipping(chance, _):
@@ -129,20 +135,27 @@ LOGS = [
     Log("codes in pairs", {}, 1, paired),
     Log("a code bounces", {}, 1, bouncing),
     Log("eight schedules", EIGHT | OWN, 8, calibrating, edition=2),
+    Log("stopped by warning", {"warn_blocks": 1}, 1, warned),
 ]
 
 
+def in_edition_2(lines):
+    """Standard settings of edition 3 as edition 2 has them: a line more, `warn_blocks`."""
+    at = lines.index("ignore_disc=0")
+    return ["edition=2", *lines[1:at], "warn_blocks=0", *lines[at:]]
+
+
 def in_edition_1(lines):
-    """Standard settings of edition 2 as edition 1 has them: no line for the edition, and one schedule for all eight. The standard
-    ones are alike, so that of controller 0 is it."""
-    return [line.replace("at0_", "at_") for line in lines if not re.match("edition=|at[1-7]_", line)]
+    """And as edition 1 has them: no line for the edition, and one schedule for all eight. The standard ones are alike, so that of
+    controller 0 is it."""
+    return [line.replace("at0_", "at_") for line in in_edition_2(lines) if not re.match("edition=|at[1-7]_", line)]
 
 
 def write(log, records, standard, folder):
-    """Writes the files of a log of so many records, over the standard settings' text, which is of edition 2, and hands back their
+    """Writes the files of a log of so many records, over the standard settings' text, which is of edition 3, and hands back their
     folder."""
-    lines = standard.splitlines()
-    pairs = (line.split("=") for line in (in_edition_1(lines) if log.edition == 1 else lines))
+    older = {1: in_edition_1, 2: in_edition_2}[log.edition]
+    pairs = (line.split("=") for line in older(standard.splitlines()))
     text = "".join(f"{key}={log.settings.get(key, value)}\n" for key, value in pairs)
     chance = random.Random(log.name)
     head = [command(k, START) for k in range(log.groups)] + [crossing()] * WARMING + list(log.first)

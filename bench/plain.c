@@ -52,7 +52,6 @@ static uint32_t among(uint64_t n, uint64_t k) {
 }
 
 static int is_free(int warn) {
-    if (warn && set[WARN_BLOCKS]) return 0;
     if (among(crossings, set[R1_GAP])) return 0;
     for (int r = R2; r <= R4; r += 3)
         if (among(crossings, set[r] - 1) + 1 > set[r + 1 + warn]) return 0;

@@ -126,7 +126,7 @@ static void mark(uint64_t n, int passes) {
 }
 
 static int is_free(int warn) {
-    if ((warn && set[WARN_BLOCKS]) || held[0]) return 0;
+    if (held[0]) return 0;
     for (int r = 1; r < RULES; r++)
         if (held[r] >= set[R2 + 3 * (r - 1) + 1 + warn]) return 0;
     return 1;

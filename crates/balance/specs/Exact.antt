@@ -11,7 +11,7 @@ use Rattle.logbook.specs.Whole.{Taken, Crossing, whole}
 use Rattle.balance.specs.Reading.{Look, lookAt, opens, asksFor, readingOf}
 
 -- a request is due where it is asked, the status is ready or warning, the slot its own, the number outside the gap, no cycle open, and
--- the four rules (and warn_blocks) are clear
+-- the four rules are clear
 abbrev pub due : Settings → Look → Bool → Bool
 due s l busy = l .asked && (l .runs && (l .own && (not (inGap (gapOf s) (l .number)) && (not busy && l .clear))))
 

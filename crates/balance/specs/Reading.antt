@@ -7,7 +7,7 @@ use lib.ListN.{getD}
 use Rattle.laws.specs.Base.{if, one}
 use Rattle.settings.specs.declared.Settings.{Settings}
 use Rattle.settings.specs.declared.names.Gap.{Gap}
-use Rattle.settings.specs.Names.{gapOf, scheduleOf, rulesOf, warnBlocksOf}
+use Rattle.settings.specs.Names.{gapOf, scheduleOf, rulesOf}
 use Rattle.throttle.specs.Windows.{freeAfter}
 use Rattle.states.specs.Commands.{START}
 use Rattle.ptc.specs.declared.counts.Counts.{Counts}
@@ -51,7 +51,7 @@ lookAt s log rows k i = record {
   runs = runsIn (rowAt rows i) k;
   own = eqb k (holderBy s log i);
   number = numberBy s log i;
-  clear = freeAfter (rulesOf s) (warnBlocksOf s) (triggers (crossingRows log rows i)) (warnsIn (rowAt rows i) k);
+  clear = freeAfter (rulesOf s) (triggers (crossingRows log rows i)) (warnsIn (rowAt rows i) k);
 }
 
 -- the cycle is open from code 13 on, while the status is ready or warning and the slot its own

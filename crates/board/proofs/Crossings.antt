@@ -7,7 +7,7 @@ use Prim.Native.Nat.{ℕ, _≤_, _<_}
 use native.Mathlib.Omega.{arith}
 use lib.ListN.{length, getD, length-drop}
 use lib.Seq.{getD-drop}
-use Rattle.settings.specs.Names.{orbitOf, rulesOf, warnBlocksOf}
+use Rattle.settings.specs.Names.{orbitOf, rulesOf}
 use Rattle.status.specs.Codes.{Coded}
 use Rattle.status.specs.Merge.{classes}
 use Rattle.lanes.specs.support.Lanes.{laneClasses}
@@ -51,9 +51,9 @@ module _ (b : Board) (kit : Kit) (own : kit ≡ kitOf (b .settings)) where
   unfolding kitOf
   turn-asked e = let p = sound-parts b e in (rw own (slot-room (b .settings) (p .checks)), holder-most _ (b .turn) (p .turn))
 
-  pub scene-asked : soundBoard b ≡ true → (kit .rules ≡ rulesOf (b .settings)) × (kit .blocks ≡ warnBlocksOf (b .settings)) × (Sensible (kit .rules))
+  pub scene-asked : soundBoard b ≡ true → (kit .rules ≡ rulesOf (b .settings)) × (Sensible (kit .rules))
   unfolding kitOf
-  scene-asked e = (rw own, rw own, rw own (sensible (b .settings) (sound-parts b e .checks)))
+  scene-asked e = (rw own, rw own (sensible (b .settings) (sound-parts b e .checks)))
 
 -- ---- what their answers make
 

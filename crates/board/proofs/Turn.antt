@@ -239,10 +239,10 @@ module _ {first : Board} {log : List ℕ} {n : ℕ} {old : List ℕ} {kit : Kit}
         (omega (arith, t .less, t .long), coded-at, t .here .codes .0, t .here .codes .1, t .here .votes, t .here .firm, s .0, s .1)
 
     pub rules-asked : Sensible (kit .rules)
-    rules-asked = scene-asked now kit own-at (fit-at .sound) .2
+    rules-asked = scene-asked now kit own-at (fit-at .sound) .1
 
     module _ (seen : Sight) (looks : seen ≡ sightOf busy (kit .lanes) (kit .slots) clock (sight .turn) calm (held .carried) (held .believed) rec)
-        (scene : Scene) (sees : scene ≡ sceneFor (kit .times) (kit .waits) (kit .rules) (kit .blocks) (getD (kept .ptcs) (seen .turn .holder % 8) freshPtc) seen (kept .marks) clock) where
+        (scene : Scene) (sees : scene ≡ sceneFor (kit .times) (kit .waits) (kit .rules) (getD (kept .ptcs) (seen .turn .holder % 8) freshPtc) seen (kept .marks) clock) where
       -- the believed codes with those of this crossing
       abbrev next : List ℕ
       next = believedOf (held .carried) (held .believed) (codesIn rec)
@@ -299,7 +299,7 @@ module _ {first : Board} {log : List ℕ} {n : ℕ} {old : List ℕ} {kit : Kit}
           let code = ap (λ (x : Plan). orbitCode (x .at) (scene .number)) (plan-at j) ∙ plain in
           record { rests = rests; shows = c .shows j h; stays = passed-over (plansIn kit j) scene _ _ j _ rests code (p .silent) }
 
-      scene-at : wholeScene (kit .times) (kit .waits) (kit .gap) (kit .rules) (kit .blocks) seen (kept .marks) clock (kept .ptcs) ≡ sceneOf now (markerIn rec)
+      scene-at : wholeScene (kit .times) (kit .waits) (kit .gap) (kit .rules) seen (kept .marks) clock (kept .ptcs) ≡ sceneOf now (markerIn rec)
       unfolding sceneBy kitOf
       scene-at = rw (marker-at, turn-at, own-at)
 
@@ -308,7 +308,7 @@ module _ {first : Board} {log : List ℕ} {n : ℕ} {old : List ℕ} {kit : Kit}
           ≡ actOf (planOf (kept .settings) k) (sceneOf now (markerIn rec)) (classesIn now rec) (getD rec 2 0) k (getD (kept .ptcs) k freshPtc)
       acts-at k h =
           ap (λ (s : Scene). actOf (plansIn kit k) s (seen .classes) (seen .requests) k (getD (kept .ptcs) k freshPtc)) sees
-          ∙ scene-seen (kit .times) (kit .waits) (kit .gap) (kit .rules) (kit .blocks) seen (kept .marks) clock (kept .ptcs) k h
+          ∙ scene-seen (kit .times) (kit .waits) (kit .gap) (kit .rules) seen (kept .marks) clock (kept .ptcs) k h
           ∙ rw (scene-at, plan-at k, classes-at, requests-at)
 
       -- what the loop made of the eight is what the definition makes of them

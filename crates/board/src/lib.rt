@@ -136,15 +136,7 @@ impl Board {
             sight = next;
             let classes = sight.classes;
             let h = self.ptcs[(sight.turn.holder % 8) as usize];
-            let scene = sight.scene(
-                &kit.times,
-                kit.waits,
-                kit.rules,
-                kit.blocks,
-                h,
-                &self.marks,
-                clock,
-            );
+            let scene = sight.scene(&kit.times, kit.waits, kit.rules, h, &self.marks, clock);
             let mut bytes = [0u8; 8];
             calm = true;
             let mut k = still::next_due(sight.due, 0);

@@ -23,7 +23,7 @@ fn pick(f: u64, this: u64, new: u64, old: u64) -> u64 {
 }
 
 pub(crate) fn set_setting(mut board: Board, i: usize, value: u64) -> Board
-    requires { ⌜ i < 148 ⌝ }
+    requires { ⌜ i < 147 ⌝ }
 {
     let mut s = board.settings;
     s.values[i] = small(value);
@@ -187,7 +187,7 @@ fn is_same_held(a: Held, b: Held) -> bool {
 pub(crate) fn are_same_settings(a: Settings, b: Settings) -> bool {
     let mut same = true;
     let mut k = 0;
-    while k < 148 {
+    while k < 147 {
         same = same & (a.values[k] == b.values[k]);
         k += 1;
     }

@@ -290,7 +290,7 @@ fn obey(board: Board, log: Log, w: Words) -> Board {
     let letter = w.letter;
     match letter {
         b'n' => fresh_board(),
-        b's' => set_setting(board, at_most(w.a, 147), w.b),
+        b's' => set_setting(board, at_most(w.a, 146), w.b),
         b'v' => set_clock(board, w.a, w.b),
         b'p' => set_ptc(board, at_most(w.a, 7), w.b, w.c),
         b'm' => set_mark(board, at_most(w.a, 31), w.b),

@@ -26,7 +26,7 @@ edition-key : keyAt 0 ≡ opening .key
 unfolding keyAt keys opening
 edition-key = refl
 
-edition-range : opening .range ≡ record { low = 2; high = 2; digits = 5 }
+edition-range : opening .range ≡ record { low = 2; high = 3; digits = 5 }
 unfolding opening
 edition-range = refl
 
@@ -38,7 +38,7 @@ module _ (t : List ℕ) (b : Bool) (begins : b ≡ starts (lineHead (keyAt 1)) t
   unfolding editionOf
   first-is e = rw (begun, e)
 
-  pub stated-is : b ≡ false → (l : LineRead) → l ≡ readLine (lineHead (keyAt 0)) (record { low = 2; high = 2; digits = 5 }) t → stated l ≡ editionOf t
+  pub stated-is : b ≡ false → (l : LineRead) → l ≡ readLine (lineHead (keyAt 0)) (record { low = 2; high = 3; digits = 5 }) t → stated l ≡ editionOf t
   unfolding editionOf
   stated-is e l is = rw (begun, e, edition-range, ← edition-key, ← is)
 

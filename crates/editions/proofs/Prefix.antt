@@ -160,7 +160,8 @@ unfolding tableOf lineHead
 tables-fit zero h = lit≤ tt
 tables-fit (suc zero) h = lit≤ tt
 tables-fit (suc (suc zero)) h = lit≤ tt
-tables-fit (suc (suc (suc e))) h = absurd (omega arith)
+tables-fit (suc (suc (suc zero))) h = lit≤ tt
+tables-fit (suc (suc (suc (suc e)))) h = absurd (omega arith)
 
 pub read-by-start : (t : List ℕ) → readText (take textMost t) ≡ readText t
 unfolding readText

@@ -1,14 +1,16 @@
 -- The loop over the lines of an edition: what each turn and each way out says of the whole; and what reading answers by the way that was taken.
 -- The walks over any table, at that of the edition; the ways by cases on what was told.
 use mathlib.Core.Path.{_≡_, refl, sym, ap, _∙_}
-use mathlib.Core.Bool.{true, false, false≢true}
+use mathlib.Core.Bool.{Bool, true, false, false≢true}
 use mathlib.Core.List.{List, [], _∷_}
 use Prim.Native.Nat.{ℕ, suc, _+_, _≤_, _<_}
 use native.Mathlib.Numerals.{add-one}
 use native.Mathlib.Omega.{arith}
 use borrow.Author.Tests.{eq-eqb, ne-eqb}
+use lib.Dec.{eqb}
 use lib.ListN.{length, drop, take, set, getD, drop-of-length-le}
 use lib.Seq.{drop-cons, length-take-le}
+use Rattle.laws.specs.Base.{if}
 use Rattle.answer.specs.declared.Answer.{Answer}
 use Rattle.answer.specs.Told.{Told, told, DONE, TEXT, succeeded}
 use Rattle.text.specs.declared.Range.{Range}
@@ -21,7 +23,8 @@ use Rattle.keys.specs.support.Lines.{lines, rangeAt}
 use Rattle.keys.proofs.Lines.{noEntry, entry-key, entry-range}
 use Rattle.settings.specs.declared.Settings.{Settings}
 use Rattle.settings.specs.Relations.{relation, related}
-use Rattle.editions.specs.Read.{ReadOut, editionOf, laidOut, refused, tested, concluded, readText}
+use Rattle.settings.specs.Lows.{lowsCleared}
+use Rattle.editions.specs.Read.{ReadOut, editionOf, laidOut, warnBlocks, settled, refused, tested, concluded, readText}
 use Rattle.editions.specs.support.Tables.{countOf, placeOf}
 use Rattle.editions.specs.support.Got.{linesTold}
 use Rattle.editions.proofs.Known.{Known, place-inside, entry-is}
@@ -94,13 +97,20 @@ module _ (t : List ℕ) (e : ℕ) (is : e ≡ editionOf t) where
     pub refused-is : (a : Told) → a ≡ linesTold (readLines (tableOf e) [] t) → succeeded a ≡ false → refused a ≡ readText t
     refused-is a says off = rw says (faulty (readLines (tableOf e) [] t) (rw (← says) off)) ∙ opened
 
-    module _ (s : Settings) (ns : List ℕ) (all-read : readLines (tableOf e) [] t ≡ all ns []) (laid : s ≡ laidOut e ns)
-        (a : Told) (tells : a ≡ related (relation s)) where
-      read-is : tested s a ≡ readText t
+    module _ (own : Settings) (ns : List ℕ) (all-read : readLines (tableOf e) [] t ≡ all ns []) (laid : own ≡ laidOut e ns)
+        (a : Told) (tells : a ≡ related (relation own)) where
+      read-is : tested (settled e ns) a ≡ readText t
       read-is = rw (tells, laid) (sym (ap (concluded e) all-read)) ∙ opened
 
       pub related-is : succeeded a ≡ false → refused a ≡ readText t
       related-is off = rw off at read-is
 
-      pub done-is : succeeded a ≡ true → record { answer = a; settings = s } ≡ readText t
-      done-is ok = rw ok at read-is
+      given-is : succeeded a ≡ true → record { answer = a; settings = settled e ns } ≡ readText t
+      given-is ok = rw ok at read-is
+
+      pub done-is : (stopped : Bool) → stopped ≡ eqb (warnBlocks e ns) 1 → (s : Settings) → s ≡ if stopped (lowsCleared own) own
+          → succeeded a ≡ true → record { answer = a; settings = s } ≡ readText t
+      unfolding settled
+      done-is stopped stops s is ok =
+          let same : s ≡ settled e ns = is ∙ rw (stops, laid) in
+          ap (λ (x : Settings). record { answer = a; settings = x }) same ∙ given-is ok

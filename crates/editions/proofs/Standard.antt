@@ -1,4 +1,4 @@
--- The text of the standard settings has 1,724 bytes.
+-- The text of the standard settings has 1,710 bytes.
 -- Computed from the table.
 use mathlib.Core.Path.{_≡_, refl}
 use lib.ListN.{length}
@@ -8,6 +8,6 @@ use Rattle.keys.specs.Settings.{tableOf}
 use Rattle.settings.specs.Standard.{standard}
 use Rattle.editions.specs.Write.{textOf}
 
-pub standard-length : length (textOf standard) ≡ 1724
+pub standard-length : length (textOf standard) ≡ 1710
 unfolding textOf standard tableOf lineText lineHead decimal decimalOf
 standard-length = refl

@@ -22,7 +22,7 @@ use Rattle.settings.specs.Check.{checked}
 use Rattle.editions.specs.Write.{textOf, numbersOf, writeOut, writeAnswer, written}
 
 -- the text is that of the first keys of the table
-pub text-is : (s : Settings) → length (s .values) ≡ 148 → linesText keys (numbersOf s) ≡ textOf s
+pub text-is : (s : Settings) → length (s .values) ≡ 147 → linesText keys (numbersOf s) ≡ textOf s
 unfolding textOf
 text-is s long = newest-text (numbersOf s) (omega arith)
 

@@ -1,4 +1,4 @@
--- Documents 01, "Settings text", and 02, P2: the settings text read, in any edition that the desk knows. The first faulty line decides, in
+-- Documents 01, "Settings text", and 02, P2 and P3: the settings text read, in any edition that the desk knows. The first faulty line decides, in
 -- a line TEXT before RANGE, then the tail, then the relations.
 use Prim.Native.Nat.{ℕ, zero, suc}
 use mathlib.Core.Bool.{Bool}
@@ -12,6 +12,7 @@ use Rattle.text.specs.Lines.{lineHead, LineRead, taken, ill, out, readLine, Lin
 use Rattle.keys.specs.Settings.{opening, tableOf}
 use Rattle.settings.specs.declared.Settings.{Settings}
 use Rattle.settings.specs.Relations.{relation, related}
+use Rattle.settings.specs.Lows.{lowsCleared}
 use Rattle.settings.specs.Standard.{standard}
 use Rattle.editions.specs.declared.Read.{Read}
 
@@ -37,13 +38,23 @@ abbrev pub repeated : ℕ → List ℕ → List ℕ
 repeated zero l = []
 repeated (suc n) l = l ++ repeated n l
 
--- the lines from which the values of the settings are taken. The first edition's schedule is given to all eight; in the newest they
--- follow the first line as they stand
+-- the lines from which the values of the settings are taken. Line 13 of the first edition and line 14 of the second is `warn_blocks`;
+-- the first edition's schedule is given to all eight; in the newest the values follow the first line as they stand
 unfoldable pub sources : ℕ → List ℕ
-sources e = if (eqb e 1) (run 28 0 ++ (repeated 8 (run 11 28) ++ run 32 39)) (run 148 1)
+sources e =
+    if (eqb e 1) (run 13 0 ++ (run 14 14 ++ (repeated 8 (run 11 28) ++ run 32 39)))
+    (if (eqb e 2) (run 13 1 ++ run 134 15) (run 147 1))
 
 unfoldable pub laidOut : ℕ → List ℕ → Settings
 laidOut e ns = record { values = map (λ i. getD ns i 0) (sources e) }
+
+-- document 02, P3: the value of `warn_blocks` in older text
+unfoldable pub warnBlocks : ℕ → List ℕ → ℕ
+warnBlocks e ns = if (eqb e 1) (getD ns 13 0) (if (eqb e 2) (getD ns 14 0) 0)
+
+-- where it is 1, the three low limits are then set to 0
+unfoldable pub settled : ℕ → List ℕ → Settings
+settled e ns = if (eqb (warnBlocks e ns) 1) (lowsCleared (laidOut e ns)) (laidOut e ns)
 
 -- ---- reading
 
@@ -63,11 +74,11 @@ refused a = record { answer = a; settings = standard }
 abbrev pub tested : Settings → Told → ReadOut
 tested s a = if (succeeded a) (record { answer = a; settings = s }) (refused a)
 
--- bytes that follow the last line are TEXT on the line after it
+-- bytes that follow the last line are TEXT on the line after it. The relations are tried on the text's own values
 abbrev pub concluded : ℕ → Lines → ReadOut
 concluded e (textAt n) = refused (TEXT n)
 concluded e (rangeAt n) = refused (RANGE n)
-concluded e (all ns []) = tested (laidOut e ns) (related (relation (laidOut e ns)))
+concluded e (all ns []) = tested (settled e ns) (related (relation (laidOut e ns)))
 concluded e (all ns (b ∷ t)) = refused (TEXT (suc (length ns)))
 
 -- a first line that opens no known edition is TEXT

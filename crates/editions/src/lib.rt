@@ -1,4 +1,4 @@
-// The settings text, read in any edition that the desk knows and written in the newest (documents 01, "Settings text", and 02, P2).
+// The settings text, read in any edition that the desk knows and written in the newest (documents 01, "Settings text", and 02, P2 and P3).
 mod tables;
 
 use answer::Answer;
@@ -6,13 +6,16 @@ use settings::Settings;
 use tables::count;
 use tables::place;
 use tables::source;
+use tables::stops;
 use text::Line;
 use text::Range;
 ghost use mathlib.Core.Path.{_≡_};
 ghost use Prim.Native.Nat.{_<_, _≤_};
 ghost use lib.ListN.{length, take};
+ghost use Rattle.laws.specs.Base.{if};
 ghost use Rattle.answer.specs.Told.{told};
 ghost use Rattle.keys.specs.Settings.{newest};
+ghost use Rattle.settings.specs.Lows.{lowsCleared};
 ghost use Rattle.editions.specs.Read.{editionOf, readText, readOut, refused, laidOut};
 ghost use Rattle.editions.specs.Write.{textOf, numbersOf, written, writeOut};
 ghost use Rattle.editions.specs.support.Tables.{countOf};
@@ -56,7 +59,7 @@ fn edition_of(text: &[u8]) -> usize
     }
     let known = Range {
         low: 2,
-        high: 2,
+        high: 3,
         digits: 5,
     };
     match keys::read_line(text, 0, 0, known) {
@@ -117,13 +120,23 @@ fn laid_out(e: usize, numbers: [u32; 149]) -> Settings
     requires { ⌜ (0 < e) × (e ≤ newest) ⌝ }
     ensures { λ r. ⌜ r ≡ laidOut e (take (countOf e) numbers) ⌝ }
 {
-    let mut values = [0u32; 148];
+    let mut values = [0u32; 147];
     let mut n = 0;
-    while n < 148 {
+    while n < 147 {
         values[n] = numbers[source(e, n)];
         n += 1;
     }
     Settings { values: values }
+}
+
+// Text that stopped triggers under warning gets low limits of 0, which do the same.
+fn settled(own: Settings, stopped: bool) -> Settings
+    ensures { λ r. ⌜ r ≡ if stopped (lowsCleared own) own ⌝ }
+{
+    if stopped {
+        return own.lows_cleared();
+    }
+    own
 }
 
 // Any bytes at all. The first line decides the edition, then the first faulty line, the tail and the relations decide.
@@ -140,25 +153,25 @@ pub fn read_text(text: &[u8]) -> Read
         return refusal(lines);
     }
     let numbers = got.numbers;
-    let s = laid_out(e, numbers);
-    let related = s.first_relation().told();
+    let own = laid_out(e, numbers);
+    let related = own.first_relation().told();
     if !related.is_done() {
         return refusal(related);
     }
     Read {
         answer: related,
-        settings: s,
+        settings: settled(own, stops(e, numbers)),
     }
 }
 
 // The numbers of the newest edition's lines: the edition itself, then the values.
-fn numbers_of(s: Settings) -> [u64; 149]
+fn numbers_of(s: Settings) -> [u64; 148]
     ensures { λ r. ⌜ r ≡ numbersOf s ⌝ }
 {
     let v = s.values;
-    let mut numbers = [2u64; 149];
+    let mut numbers = [3u64; 148];
     let mut n = 0;
-    while n < 148 {
+    while n < 147 {
         numbers[n + 1] = wide(v[n]);
         n += 1;
     }

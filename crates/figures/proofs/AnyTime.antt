@@ -9,7 +9,7 @@ use native.Mathlib.Omega.{arith}
 use lib.ListN.{length, replicate}
 use Rattle.laws.specs.Base.{if, one}
 use Rattle.laws.proofs.Bools.{one-le}
-use Rattle.settings.specs.Names.{rulesOf, warnBlocksOf}
+use Rattle.settings.specs.Names.{rulesOf}
 use Rattle.settings.specs.Standard.{standard}
 use Rattle.throttle.specs.Marks.{passed}
 use Rattle.throttle.specs.Rules.{free}
@@ -24,7 +24,7 @@ use Rattle.figures.specs.Figures.{sends, sendsFrom}
 unfoldable pub sendsAfter : (ℕ → Bool) → ℕ → ℕ → List ℕ → List ℕ
 sendsAfter warn zero k ms = []
 sendsAfter warn (suc left) k ms =
-    let sent = freeAfter (rulesOf standard) (warnBlocksOf standard) ms (warn k) in
+    let sent = freeAfter (rulesOf standard) ms (warn k) in
     let rest = sendsAfter warn left (suc k) (one sent ∷ ms) in
     if sent (k ∷ rest) rest
 
@@ -32,11 +32,11 @@ sends-same : (warn : ℕ → Bool) (left k n : ℕ) (ws ms : List ℕ) → lengt
 unfolding sends sendsAfter
 sends-same warn zero k n ws ms long told = refl
 sends-same warn (suc left) k n ws ms long told =
-    let sent = free (rulesOf standard) (warnBlocksOf standard) ws n (warn k) in
+    let sent = free (rulesOf standard) ws n (warn k) in
     let next : Tells (passed ws n (one sent)) (suc n) (one sent ∷ ms) =
     rw (← add-one n) (tells-on ws n ms (one sent) long (omega (arith, one-le sent)) told) in
     let rest = sends-same warn left (suc k) (suc n) (passed ws n (one sent)) (one sent ∷ ms) (passed-long ws n (one sent) ∙ long) next in
-    rw rest (rw (free-told (rulesOf standard) near-standard (warnBlocksOf standard) ws n ms told (warn k)))
+    rw rest (rw (free-told (rulesOf standard) near-standard ws n ms told (warn k)))
 
 pub any-time : (t : ℕ) (warn : ℕ → Bool) → sendsFrom t warn ≡ sendsAfter warn 251 0 []
 any-time t warn = sends-same warn 251 0 t (replicate 32 0) [] refl (none-told t)

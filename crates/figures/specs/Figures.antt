@@ -7,7 +7,7 @@ use lib.Dec.{leb, eqb}
 use lib.ListN.{getD, set, replicate}
 use Rattle.laws.specs.Base.{if, one}
 use Rattle.settings.specs.declared.Settings.{Settings}
-use Rattle.settings.specs.Names.{rulesOf, warnBlocksOf}
+use Rattle.settings.specs.Names.{rulesOf}
 use Rattle.settings.specs.Standard.{standard}
 use Rattle.status.specs.Class.{none, busy, bad, classOf}
 use Rattle.status.specs.Merge.{merged}
@@ -27,7 +27,7 @@ use Rattle.runup.specs.Crossings.{codesUnder, crossingWith, tells, later, start
 unfoldable pub sends : (ℕ → Bool) → ℕ → ℕ → ℕ → List ℕ → List ℕ
 sends warn zero k n marks = []
 sends warn (suc left) k n marks =
-    let sent = free (rulesOf standard) (warnBlocksOf standard) marks n (warn k) in
+    let sent = free (rulesOf standard) marks n (warn k) in
     let rest = sends warn left (suc k) (suc n) (passed marks n (one sent)) in
     if sent (k ∷ rest) rest
 
@@ -37,7 +37,7 @@ sendsFrom t warn = sends warn 251 0 t (replicate 32 0)
 
 -- the standard settings, but disconnected members are left out
 abbrev pub ignoring : Settings
-ignoring = record { values = set (standard .values) 14 1 }
+ignoring = record { values = set (standard .values) 13 1 }
 
 -- the 41 codes of a record all being c: the GTFE code, then two in a byte
 abbrev pub allOf : ℕ → List ℕ

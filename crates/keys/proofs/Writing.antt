@@ -42,17 +42,17 @@ left-none first vs n = text-end (drop first keys) vs n
 -- ---- which keys these are
 
 -- the newest edition's are the first
-apart : keys ≡ keysOf (tableOf newest) ++ drop 149 keys
+apart : keys ≡ keysOf (tableOf newest) ++ drop 148 keys
 unfolding keys tableOf
 apart = refl
 
-newest-count : length (keysOf (tableOf newest)) ≡ 149
+newest-count : length (keysOf (tableOf newest)) ≡ 148
 unfolding tableOf
 newest-count = refl
 
-pub newest-text : (vs : List ℕ) → length vs ≤ 149 → linesText keys vs ≡ linesText (keysOf (tableOf newest)) vs
+pub newest-text : (vs : List ℕ) → length vs ≤ 148 → linesText keys vs ≡ linesText (keysOf (tableOf newest)) vs
 newest-text vs h =
-    ap (λ (ks : List (List ℕ)). linesText ks vs) apart ∙ text-within (keysOf (tableOf newest)) (drop 149 keys) vs (omega (arith, newest-count))
+    ap (λ (ks : List (List ℕ)). linesText ks vs) apart ∙ text-within (keysOf (tableOf newest)) (drop 148 keys) vs (omega (arith, newest-count))
 
 pub common-text : (vs : List ℕ) → length vs ≤ 4 → linesText (drop commonFirst keys) vs ≡ linesText commonKeys vs
 unfolding keys

@@ -1,4 +1,4 @@
--- Documents 01, "Settings text", and 02, P2: the lines of the settings text, edition by edition, each with its key, its range and its
+-- Documents 01, "Settings text", and 02, P2 and P3: the lines of the settings text, edition by edition, each with its key, its range and its
 -- standard value.
 use Prim.Native.Nat.{ℕ, zero, suc}
 use Prim.Native.String.{String}
@@ -30,10 +30,10 @@ numbered name (suc count) from low high standard =
 
 -- ---- the parts that the editions are made of
 
--- document 01's lines 1 to 28
-unfoldable pub general : List Setting
-unfolding setting numbered
-general =
+-- document 01's lines 1 to 13: the orbit, its gap and the throttle's rules
+unfoldable pub throttling : List Setting
+unfolding setting
+throttling =
     setting "orbit" 64 4096 3564
     ∷ setting "gap_low" 0 4095 3444
     ∷ setting "gap_high" 0 4095 3563
@@ -47,8 +47,18 @@ general =
     ∷ setting "r4_period" 1 2047 240
     ∷ setting "r4_norm" 0 511 4
     ∷ setting "r4_low" 0 511 2
-    ∷ setting "warn_blocks" 0 1 0
-    ∷ setting "ignore_disc" 0 1 0
+    ∷ []
+
+-- document 01's line 14, which document 02, P3, retires
+unfoldable pub retired : List Setting
+unfolding setting
+retired = setting "warn_blocks" 0 1 0 ∷ []
+
+-- document 01's lines 15 to 28: the merge, the waits and the slots
+unfoldable pub handling : List Setting
+unfolding setting numbered
+handling =
+    setting "ignore_disc" 0 1 0
     ∷ setting "ignore_bad" 0 1 0
     ∷ setting "settle_resync" 0 255 12
     ∷ setting "settle_hard" 0 255 12
@@ -90,7 +100,7 @@ linesOf = map (λ (s : Setting). s .line)
 
 -- the newest that the desk knows, which is the one that it writes
 abbrev pub newest : ℕ
-newest = 2
+newest = 3
 
 -- document 02, P2: the first line of every edition but the first
 unfoldable pub opening : Entry
@@ -99,15 +109,20 @@ opening = record { key = bytes "edition"; range = record { low = 2; high = newes
 
 -- the values of the settings, in the order of the newest edition
 unfoldable pub settings : List Setting
-unfolding general schedules parts
-settings = general ++ (schedules 8 0 ++ parts)
+unfolding throttling handling schedules parts
+settings = throttling ++ (handling ++ (schedules 8 0 ++ parts))
 
 -- their lines, which follow the first one
 unfoldable pub valueLines : List Entry
 unfolding settings
 valueLines = linesOf settings
 
--- edition 1 is document 01's, with one schedule, `at_bc0` and so on; edition 2 has eight
+-- the lines of an older edition's values, by its schedules
+unfoldable pub olderLines : List Setting → List Entry
+unfolding throttling retired handling parts
+olderLines times = linesOf (throttling ++ (retired ++ (handling ++ (times ++ parts))))
+
+-- edition 1 is document 01's, with one schedule, `at_bc0` and so on; edition 2 has eight; edition 3 has no `warn_blocks`
 unfoldable pub tableOf : ℕ → List Entry
-unfolding bytes general schedule parts opening valueLines
-tableOf e = if (eqb e 1) (linesOf (general ++ (schedule (bytes "at_") ++ parts))) (opening ∷ valueLines)
+unfolding bytes schedule schedules opening valueLines olderLines
+tableOf e = if (eqb e 1) (olderLines (schedule (bytes "at_"))) (opening ∷ (if (eqb e 2) (olderLines (schedules 8 0)) valueLines))

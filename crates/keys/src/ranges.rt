@@ -26,8 +26,7 @@ const LOWS: [u32; 160] = [
     1,
     0,
     0,
-    // warn_blocks, ignore_disc, ignore_bad
-    0,
+    // ignore_disc, ignore_bad
     0,
     0,
     // settle_resync, settle_hard, recover_resync, recover_hard
@@ -173,6 +172,8 @@ const LOWS: [u32; 160] = [
     0,
     0,
     0,
+    // warn_blocks
+    0,
     // at_bc0 to at_cal
     0,
     0,
@@ -189,7 +190,7 @@ const LOWS: [u32; 160] = [
 
 const HIGHS: [u32; 160] = [
     // edition
-    2,
+    3,
     // orbit
     4096,
     // gap_low, gap_high
@@ -209,8 +210,7 @@ const HIGHS: [u32; 160] = [
     2047,
     511,
     511,
-    // warn_blocks, ignore_disc, ignore_bad
-    1,
+    // ignore_disc, ignore_bad
     1,
     1,
     // settle_resync, settle_hard, recover_resync, recover_hard
@@ -356,6 +356,8 @@ const HIGHS: [u32; 160] = [
     8,
     8,
     8,
+    // warn_blocks
+    1,
     // at_bc0 to at_cal
     4095,
     4095,

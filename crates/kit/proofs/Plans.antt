@@ -1,5 +1,5 @@
 -- The schedules that are laid out as one list give each controller its own plan.
--- Number j of controller k stands at place 11 k + j of the list, and 28 places further on in the values.
+-- Number j of controller k stands at place 11 k + j of the list, and 27 places further on in the values.
 use mathlib.Core.Path.{_≡_, ap, sym, _∙_}
 use Prim.Native.Nat.{ℕ, _+_, _*_, _%_, _<_}
 use native.Mathlib.Nat.{add-zero, zero-add}
@@ -16,8 +16,8 @@ use Rattle.kit.specs.support.Laid.{timesFor}
 module _ (s : Settings) (k : ℕ) where
   number : (j : ℕ) → j < 11 → getD (timesFor s) (11 * (k % 8) + j) 0 ≡ after s (timesAt k + j)
   number j h =
-      let here : 28 + (11 * (k % 8) + j) ≡ timesAt k + j = omega arith in
-      getD-tabulate (λ n. after s (28 + n)) 0 88 (11 * (k % 8) + j) 0 (omega arith) ∙ rw (zero-add, here)
+      let here : 27 + (11 * (k % 8) + j) ≡ timesAt k + j = omega arith in
+      getD-tabulate (λ n. after s (27 + n)) 0 88 (11 * (k % 8) + j) 0 (omega arith) ∙ rw (zero-add, here)
 
   first-number : getD (timesFor s) (11 * (k % 8)) 0 ≡ after s (timesAt k)
   first-number = ap (λ (n : ℕ). getD (timesFor s) n 0) (sym (add-zero (11 * (k % 8)))) ∙ number 0 (lit< tt) ∙ ap (after s) (add-zero (timesAt k))

@@ -6,7 +6,7 @@ use mathlib.Core.Bool.{Bool}
 use mathlib.Core.List.{List}
 use Rattle.settings.specs.declared.Settings.{Settings}
 use Rattle.settings.specs.declared.names.Waits.{Waits}
-use Rattle.settings.specs.Names.{orbitOf, rulesOf, warnBlocksOf, waitsOf}
+use Rattle.settings.specs.Names.{orbitOf, rulesOf, waitsOf}
 use Rattle.status.specs.Merge.{classes}
 use Rattle.throttle.specs.Rules.{free}
 use Rattle.ptc.specs.declared.Plan.{Plan}
@@ -29,6 +29,6 @@ viewOf s = record {
   slots = slotsOf s;
   waits = waitsOf s;
   plan = planOf s;
-  free = free (rulesOf s) (warnBlocksOf s);
+  free = free (rulesOf s);
   classes = classes s;
 }

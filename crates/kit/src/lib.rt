@@ -15,7 +15,6 @@ pub struct Kit {
     // The schedules of all eight, eleven numbers each.
     pub times: [u32; 88],
     pub rules: Rules,
-    pub blocks: bool,
     pub lanes: [u64; 656],
     pub slots: [u32; 8],
 }
@@ -39,7 +38,7 @@ fn times_of(s: Settings) -> [u32; 88]
     let mut times = [0u32; 88];
     let mut n = 0;
     while n < 88 {
-        times[n] = v[28 + n];
+        times[n] = v[27 + n];
         n += 1;
     }
     times
@@ -76,7 +75,6 @@ impl Kit {
             gap: gap,
             times: times,
             rules: rules,
-            blocks: s.warn_blocks(),
             lanes: lanes,
             slots: slots,
         }

@@ -16,10 +16,10 @@ use Rattle.laws.proofs.First.{first-holds}
 use Rattle.laws.proofs.Over.{length-tabulate, getD-tabulate}
 use Rattle.text.specs.Bytes.{bytes}
 use Rattle.text.specs.Decimal.{decimal, decimalOf}
-use Rattle.keys.specs.Settings.{valueLines}
+use Rattle.keys.specs.Settings.{valueLines, tableOf}
 use Rattle.settings.specs.declared.Settings.{Settings}
 use Rattle.settings.specs.Names.{after, scheduleOf, timesOf}
-use Rattle.naming.specs.Named.{lineOf, valueOf, valueOfNth, atKey, atValue, atValues, NamedByKey}
+use Rattle.naming.specs.Named.{lineOf, valueOf, valueOfNth, atKey, atValue, atValues, Retired, NamedByKey}
 
 -- lines of one name, numbered from 0, stand one after the other from a place on
 abbrev standsAt : String → ℕ → ℕ → Bool
@@ -30,20 +30,20 @@ module _ (key : String) (first count : ℕ) (all : firstNot (standsAt key first)
   unfolding valueOfNth
   nth-named n h = ap (after s) (sym (eqb-true _ _ (first-holds (standsAt key first) count all n h)))
 
-slots-stand : firstNot (standsAt "slot" 20) 8 0 ≡ 8
+slots-stand : firstNot (standsAt "slot" 19) 8 0 ≡ 8
 unfolding lineOf bytes decimal decimalOf valueLines firstNot
 slots-stand = refl
 
-parts-stand : firstNot (standsAt "part" 116) 32 0 ≡ 32
+parts-stand : firstNot (standsAt "part" 115) 32 0 ≡ 32
 unfolding lineOf bytes decimal decimalOf valueLines firstNot
 parts-stand = refl
 
 -- the lines of one name of the eight schedules stand eleven apart
 abbrev atStands : String → ℕ → ℕ → Bool
-atStands name j k = eqb (lineOf (atKey name k)) (28 + 11 * k + j)
+atStands name j k = eqb (lineOf (atKey name k)) (27 + 11 * k + j)
 
 module _ (name : String) (j : ℕ) (all : firstNot (atStands name j) 8 0 ≡ 8) (s : Settings) (k : ℕ) (low : k < 8) where
-  number-named : after s (28 + 11 * k + j) ≡ atValue s name k
+  number-named : after s (27 + 11 * k + j) ≡ atValue s name k
   unfolding atValue
   number-named = ap (after s) (sym (eqb-true _ _ (first-holds (atStands name j) 8 all k low)))
 
@@ -97,7 +97,7 @@ module _ (s : Settings) (k : ℕ) (low : k < 8) where
 
   -- number j by its place and by its key
   abbrev number : ℕ → ℕ
-  number j = after s (28 + 11 * k + j)
+  number j = after s (27 + 11 * k + j)
 
   listed : atValues s k ≡ tabulate number 0 11
   unfolding atValues tabulate
@@ -120,13 +120,13 @@ module _ (s : Settings) (k : ℕ) (low : k < 8) where
   schedule-named =
       rw (← number-named "bc0" 0 bc0-stand s k low, ← number-named "te" 1 te-stand s k low, ← number-named "resync" 2 resync-stand s k low, ← number-named "hard" 3 hard-stand s k low, ← number-named "ec0" 4 ec0-stand s k low, ← number-named "oc0" 5 oc0-stand s k low, ← number-named "start" 6 start-stand s k low, ← number-named "stop" 7 stop-stand s k low, ← number-named "gap" 8 gap-stand s k low, ← number-named "wte" 9 wte-stand s k low, ← number-named "cal" 10 cal-stand s k low, own, add-zero)
 
-  times-named : length (s .values) ≡ 148 → timesOf s k ≡ atValues s k
+  times-named : length (s .values) ≡ 147 → timesOf s k ≡ atValues s k
   times-named long =
       let enough : length (timesOf s k) ≡ 11 = simp (length-take, length-drop) (omega arith) in
       ext-getD 0 (timesOf s k) (tabulate number 0 11) (enough ∙ sym (length-tabulate number 0 11))
       (λ i h.
       let few : i < 11 = rw enough at h in
-      getD-take 11 (drop (28 + 11 * k) (s .values)) i 0 few ∙ getD-drop (28 + 11 * k) (s .values) i 0 ∙ sym (getD-tabulate number 0 11 i 0 few ∙ rw zero-add))
+      getD-take 11 (drop (27 + 11 * k) (s .values)) i 0 few ∙ getD-drop (27 + 11 * k) (s .values) i 0 ∙ sym (getD-tabulate number 0 11 i 0 few ∙ rw zero-add))
       ∙ sym listed
 
 pub named-by-key : NamedByKey
@@ -136,11 +136,15 @@ named-by-key s long =
       orbit = refl;
       gap = refl;
       rules = refl;
-      warn-blocks = refl;
+      low-limits = refl;
       ignores = refl;
       waits = refl;
-      slot = nth-named "slot" 20 8 slots-stand s;
+      slot = nth-named "slot" 19 8 slots-stand s;
       schedule = schedule-named s;
       times = λ k low. times-named s k low long;
-      part = nth-named "part" 116 32 parts-stand s;
+      part = nth-named "part" 115 32 parts-stand s;
     }
+
+pub retired : Retired
+unfolding lineOf bytes valueLines tableOf firstNot
+retired = record { first = refl; second = refl; gone = refl }

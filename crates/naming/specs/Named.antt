@@ -1,4 +1,4 @@
--- Documents 01, "Settings text", and 02, P2: every name with its key. `Names.antt` finds a value by the place of its line; here each is found by the
+-- Documents 01, "Settings text", and 02, P2 and P3: every name with its key. `Names.antt` finds a value by the place of its line; here each is found by the
 -- key that stands on the line, so that a place which is off, in the names or in the table, makes this false.
 use Prim.Native.Nat.{ℕ, _<_}
 use Prim.Native.String.{String}
@@ -11,10 +11,11 @@ use Rattle.laws.specs.Base.{firstNot}
 use Rattle.text.specs.Bytes.{bytes}
 use Rattle.text.specs.Decimal.{decimal}
 use Rattle.text.specs.Lines.{keysOf}
-use Rattle.keys.specs.Settings.{valueLines}
+use Rattle.keys.specs.Settings.{valueLines, tableOf}
 use Rattle.settings.specs.declared.Settings.{Settings}
 use Rattle.settings.specs.declared.names.Rule.{Rule}
-use Rattle.settings.specs.Names.{after, orbitOf, gapOf, rulesOf, warnBlocksOf, ignoresOf, waitsOf, slotOf, scheduleOf, timesOf, partOf}
+use Rattle.settings.specs.Lows.{lows}
+use Rattle.settings.specs.Names.{after, orbitOf, gapOf, rulesOf, ignoresOf, waitsOf, slotOf, scheduleOf, timesOf, partOf}
 
 abbrev pub sameBytes : List ℕ → List ℕ → Bool
 sameBytes [] [] = true
@@ -22,10 +23,10 @@ sameBytes [] (b ∷ bs) = false
 sameBytes (a ∷ more) [] = false
 sameBytes (a ∷ more) (b ∷ bs) = eqb a b && sameBytes more bs
 
--- how many lines stand before the one with this key, the edition's not counted; 148 where there is none
+-- how many lines stand before the one with this key, the edition's not counted; 147 where there is none
 unfoldable pub lineOf : List ℕ → ℕ
 unfolding valueLines
-lineOf key = firstNot (λ n. not (sameBytes key (getD (keysOf valueLines) n []))) 148 0
+lineOf key = firstNot (λ n. not (sameBytes key (getD (keysOf valueLines) n []))) 147 0
 
 -- the value of the line with this key, and with this key and a number
 unfoldable pub valueOf : Settings → String → ℕ
@@ -73,7 +74,8 @@ pub record Named (s : Settings) : Type 0 where
     third = ruleOf s "r3_period" "r3_norm" "r3_low";
     fourth = ruleOf s "r4_period" "r4_norm" "r4_low";
   }
-  pub warn-blocks : warnBlocksOf s ≡ eqb (valueOf s "warn_blocks") 1
+  -- the three that become 0 where older text has `warn_blocks` 1
+  pub low-limits : lows ≡ lineOf (bytes "r4_low") ∷ lineOf (bytes "r3_low") ∷ lineOf (bytes "r2_low") ∷ []
   pub ignores : ignoresOf s ≡ record { disc = eqb (valueOf s "ignore_disc") 1; bad = eqb (valueOf s "ignore_bad") 1 }
   pub waits : waitsOf s ≡ record {
     settle = record { resync = valueOf s "settle_resync"; hard = valueOf s "settle_hard" };
@@ -97,5 +99,11 @@ pub record Named (s : Settings) : Type 0 where
   pub times : (k : ℕ) → k < 8 → timesOf s k ≡ atValues s k
   pub part : (p : ℕ) → p < 32 → partOf s p ≡ valueOfNth s "part" p
 
+-- document 02, P3: where older text has its line, and that no value has it now
+pub record Retired : Type 0 where
+  pub first : getD (keysOf (tableOf 1)) 13 [] ≡ bytes "warn_blocks"
+  pub second : getD (keysOf (tableOf 2)) 14 [] ≡ bytes "warn_blocks"
+  pub gone : lineOf (bytes "warn_blocks") ≡ 147
+
 abbrev pub NamedByKey : Type 0
-NamedByKey = (s : Settings) → length (s .values) ≡ 148 → Named s
+NamedByKey = (s : Settings) → length (s .values) ≡ 147 → Named s

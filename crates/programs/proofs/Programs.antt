@@ -23,7 +23,8 @@ use Rattle.settings.proofs.Standard.{standard-checks}
 use Rattle.editions.specs.Read.{ReadOut, editionOf, readText}
 use Rattle.editions.specs.Write.{textOf, writeAnswer, written}
 use Rattle.editions.proofs.Standard.{standard-length}
-use Rattle.editions.proofs.RoundTrip.{accepted, text-back, text-reads-back, first-text-accepted, first-of, known-alone, write-checks}
+use Rattle.editions.proofs.RoundTrip.{accepted, in-order, text-of, text-accepted, text-back, text-reads-back, write-checks}
+use Rattle.editions.proofs.Opening.{edition-most}
 use Rattle.clock.specs.Turn.{nextFrom, takesOver, freshTurn}
 use Rattle.ptc.specs.Counts.{requestedOf}
 use Rattle.ptc.specs.Crossing.{crossedOf}
@@ -41,7 +42,7 @@ use Rattle.board.proofs.Keeps.{fresh-sound, ran-count}
 use Rattle.report.specs.Report.{controllerText, blocksFrom, reportText, reportAnswer, reported}
 use Rattle.cut.proofs.Cut.{cut}
 use Rattle.balance.proofs.Balance.{balance}
-use Rattle.programs.specs.Programs.{orbitZero, fresh, unsound, crossing, shortened, damaged, requestedIn, ReadsText, WritesText, MakesBoard, RunsBlock, WritesReport, NoEmptyProgram}
+use Rattle.programs.specs.Programs.{orbitZero, fresh, unsound, crossing, shortened, damaged, requestedIn, TextOf, ReadsText, WritesText, MakesBoard, RunsBlock, WritesReport, NoEmptyProgram}
 
 zero-checks : checked orbitZero ≡ RANGE 2
 unfolding checked outOfRange standard valueLines
@@ -52,21 +53,23 @@ room-yes need room e = leb-true need room (if-yes (leb need room) DONE (ROOM nee
 
 -- ---- reading
 
-standard-long : length (standard .values) ≡ 148
+standard-long : length (standard .values) ≡ 147
 unfolding standard
 standard-long = refl
+
+text-is-of : (text : List ℕ) → readText text .answer ≡ DONE → TextOf text
+text-is-of text e =
+    let a = accepted text e in
+    record { some = a .some; most = edition-most text; numbers = a .numbers; in-order = in-order text a; text-is = text-of text a; settings = a .settings }
 
 reading : ReadsText
 unfolding readText editionOf tableOf opening readLine lineHead lineText number bytes
 reading =
     record {
+      accepts-numbers = text-accepted;
+      accepted-numbers = text-is-of;
       accepts = text-reads-back;
       accepted = λ text e own. let a = accepted text e in (a .long, a .checks, text-back text own a);
-      first-accepts = λ ns o. first-text-accepted ns (o .long) (o .inside) (o .related);
-      first-accepted = λ text e own.
-          let f = first-of text own (accepted text e) in
-          (f .numbers, record { long = f .long; inside = f .inside; related = f .related }, f .text, f .settings);
-      known-alone = λ text e. known-alone text (accepted text e);
       standard-text = ap (λ (o : ReadOut). o .answer) (text-reads-back standard standard-long standard-checks);
       empty-text = refl;
       small-orbit = refl;

@@ -1,21 +1,20 @@
 -- Document 01, "What the contracts have to say": no empty program meets them. One that refuses everything is shut out by where an
 -- operation succeeds, one with a single fixed answer by answers that differ, one that hands the board back unmoved by what a success
 -- gives, one that feigns later blocks by the cut, and one that invents counts by the balance.
-use Prim.Native.Nat.{ℕ, _+_, _*_, _≤_}
+use Prim.Native.Nat.{ℕ, _+_, _*_, _≤_, _<_}
 use mathlib.Core.Path.{_≡_}
-use mathlib.Core.Logic.{_⊎_}
 use mathlib.Core.Bool.{true}
 use mathlib.Core.List.{List, [], _∷_, _++_}
 use lib.ListN.{length, drop, getD, set, replicate}
 use Rattle.answer.specs.Told.{DONE, TEXT, RANGE, BOARD, LENGTH, ROOM, RECORD}
 use Rattle.text.specs.Bytes.{bytes}
-use Rattle.text.specs.Lines.{keysOf, rangesOf, firstOut, lineHead, lineText, linesText}
-use Rattle.keys.specs.Settings.{newest, tableOf}
+use Rattle.text.specs.Lines.{lineHead, lineText}
+use Rattle.keys.specs.Settings.{newest}
 use Rattle.settings.specs.declared.Settings.{Settings}
 use Rattle.settings.specs.Check.{checked}
-use Rattle.settings.specs.Relations.{relation}
 use Rattle.settings.specs.Standard.{standard}
-use Rattle.editions.specs.Read.{editionOf, laidOut, readText}
+use Rattle.editions.specs.Read.{editionOf, settled, readText}
+use Rattle.editions.specs.Texts.{textIn, InOrder}
 use Rattle.editions.specs.Write.{textOf, written}
 use Rattle.records.specs.Records.{crossingsIn}
 use Rattle.records.specs.Refusal.{recordsIn, Ready}
@@ -42,15 +41,6 @@ editionLine = lineText (lineHead (bytes "edition"))
 abbrev pub orbitZero : Settings
 orbitZero = record { values = set (standard .values) 0 0 }
 
--- the first edition's text of these numbers, and that they are in order
-abbrev pub firstText : List ℕ → List ℕ
-firstText = linesText (keysOf (tableOf 1))
-
-pub record InOrder (ns : List ℕ) : Type 0 where
-  pub long : length ns ≡ 71
-  pub inside : firstOut (rangesOf (tableOf 1)) 1 ns ≡ 0
-  pub related : relation (laidOut 1 ns) .relation ≡ 0
-
 abbrev pub fresh : Board
 fresh = freshBoard standard
 
@@ -74,16 +64,23 @@ requestedIn b = getD (b .ptcs) 0 freshPtc .counts .requested
 
 -- ---- the operations
 
--- a text of the newest edition is accepted exactly if it is that of 148 values that pass the checks, and gives them; one of the first
--- exactly if it is that of 71 numbers in their ranges that, laid out, fail no relation, and gives those
+-- what an accepted text is: that of numbers in order in an edition that the desk knows, whose settings it gives
+pub record TextOf (text : List ℕ) : Type 0 where
+  pub some : 0 < editionOf text
+  pub most : editionOf text ≤ newest
+  pub numbers : List ℕ
+  pub in-order : InOrder (editionOf text) numbers
+  pub text-is : text ≡ textIn (editionOf text) numbers
+  pub settings : readText text .settings ≡ settled (editionOf text) numbers
+
+-- a text is accepted exactly if it is such a one; one of the newest edition exactly if it is that of 147 values that pass the checks,
+-- and gives them
 pub record ReadsText : Type 0 where
-  pub accepts : (s : Settings) → length (s .values) ≡ 148 → checked s ≡ DONE → readText (textOf s) ≡ record { answer = DONE; settings = s }
+  pub accepts-numbers : (e : ℕ) → 0 < e → e ≤ newest → (ns : List ℕ) → InOrder e ns → readText (textIn e ns) ≡ record { answer = DONE; settings = settled e ns }
+  pub accepted-numbers : (text : List ℕ) → readText text .answer ≡ DONE → TextOf text
+  pub accepts : (s : Settings) → length (s .values) ≡ 147 → checked s ≡ DONE → readText (textOf s) ≡ record { answer = DONE; settings = s }
   pub accepted : (text : List ℕ) → readText text .answer ≡ DONE → editionOf text ≡ newest
-      → (length (readText text .settings .values) ≡ 148) × (checked (readText text .settings) ≡ DONE) × (textOf (readText text .settings) ≡ text)
-  pub first-accepts : (ns : List ℕ) → InOrder ns → readText (firstText ns) ≡ record { answer = DONE; settings = laidOut 1 ns }
-  pub first-accepted : (text : List ℕ) → readText text .answer ≡ DONE → editionOf text ≡ 1
-      → (ns : List ℕ) × InOrder ns × (text ≡ firstText ns) × (readText text .settings ≡ laidOut 1 ns)
-  pub known-alone : (text : List ℕ) → readText text .answer ≡ DONE → (editionOf text ≡ 1) ⊎ (editionOf text ≡ newest)
+      → (length (readText text .settings .values) ≡ 147) × (checked (readText text .settings) ≡ DONE) × (textOf (readText text .settings) ≡ text)
   pub standard-text : readText (textOf standard) .answer ≡ DONE
   pub empty-text : readText [] .answer ≡ TEXT 1
   pub small-orbit : readText orbitFive .answer ≡ RANGE 1
@@ -95,8 +92,8 @@ pub record WritesText : Type 0 where
   pub accepts : (s : Settings) (buffer : List ℕ) → checked s ≡ DONE → length (textOf s) ≤ length buffer
       → written s buffer ≡ record { answer = DONE; buffer = textOf s ++ drop (length (textOf s)) buffer }
   pub accepted : (s : Settings) (buffer : List ℕ) → written s buffer .answer ≡ DONE → (checked s ≡ DONE) × (length (textOf s) ≤ length buffer)
-  pub just-fits : written standard (replicate 1724 0) .answer ≡ DONE
-  pub no-room : written standard [] .answer ≡ ROOM 1724
+  pub just-fits : written standard (replicate 1710 0) .answer ≡ DONE
+  pub no-room : written standard [] .answer ≡ ROOM 1710
   pub no-orbit : written orbitZero [] .answer ≡ RANGE 2
 
 -- a fresh board is made exactly of settings that pass the checks, and keeps them: two settings give two boards

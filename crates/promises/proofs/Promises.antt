@@ -1,7 +1,7 @@
 -- Every promise is kept: each by its own theorem.
 -- Nothing is argued here; this is where the three demands stand complete.
 use Rattle.editions.proofs.RoundTrip.{accepted-writes-back, written-reads-back, older-reads-back}
-use Rattle.naming.proofs.Named.{named-by-key}
+use Rattle.naming.proofs.Named.{named-by-key, retired}
 use Rattle.lanes.proofs.Laws.{one-pass}
 use Rattle.throttle.proofs.Ring.{marking}
 use Rattle.eight.proofs.Orbits.{orbits-cleared}
@@ -28,7 +28,7 @@ pub promises : Promises
 promises =
     record {
       refusals = refusals;
-      tied = record { names = named-by-key; merge = one-pass; marks = marking; orbits = orbits-cleared; blocks = tested-first; held = all-held };
+      tied = record { names = named-by-key; retired = retired; merge = one-pass; marks = marking; orbits = orbits-cleared; blocks = tested-first; held = all-held };
       one-outcome = one-outcome;
       round-trips = record { accepted-writes-back = accepted-writes-back; written-reads-back = written-reads-back; older-reads-back = older-reads-back };
       figures = figures;

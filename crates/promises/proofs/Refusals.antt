@@ -17,7 +17,7 @@ use Rattle.keys.specs.Settings.{tableOf}
 use Rattle.settings.specs.declared.Settings.{Settings}
 use Rattle.settings.specs.Relations.{relation, related}
 use Rattle.settings.specs.Standard.{standard}
-use Rattle.editions.specs.Read.{editionOf, laidOut, tested, concluded, readText}
+use Rattle.editions.specs.Read.{editionOf, laidOut, settled, tested, concluded, readText}
 use Rattle.editions.specs.Write.{written}
 use Rattle.board.specs.declared.Board.{Board as BoardValue}
 use Rattle.board.specs.Fresh.{freshOf}
@@ -60,7 +60,7 @@ tested-refused s a e =
 concluded-refused : (n : ℕ) (l : Lines) → succeeded (concluded n l .answer) ≡ false → concluded n l .settings ≡ standard
 concluded-refused n (textAt i) e = refl
 concluded-refused n (rangeAt i) e = refl
-concluded-refused n (all ns []) e = tested-refused (laidOut n ns) (related (relation (laidOut n ns))) e
+concluded-refused n (all ns []) e = tested-refused (settled n ns) (related (relation (laidOut n ns))) e
 concluded-refused n (all ns (b ∷ t)) e = refl
 
 reading-refused : (text : List ℕ) → succeeded (readText text .answer) ≡ false → readText text .settings ≡ standard

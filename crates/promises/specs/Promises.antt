@@ -8,7 +8,7 @@ use Rattle.settings.specs.declared.Settings.{Settings}
 use Rattle.keys.specs.Settings.{newest}
 use Rattle.editions.specs.Read.{editionOf, readText}
 use Rattle.editions.specs.Write.{textOf, written}
-use Rattle.naming.specs.Named.{NamedByKey}
+use Rattle.naming.specs.Named.{Retired, NamedByKey}
 use Rattle.lanes.specs.OnePass.{OnePass}
 use Rattle.throttle.specs.Ring.{Marking}
 use Rattle.eight.specs.Orbits.{OrbitsCleared}
@@ -29,20 +29,22 @@ use Rattle.programs.specs.Programs.{NoEmptyProgram}
 use Rattle.promises.specs.Refusals.{Refusals}
 use Rattle.promises.specs.WholeLog.{WholeLogs}
 
--- demand 2, second sentence, and document 02, P2: text of the newest edition, what is written, and text of any edition; settings have 148 values
+-- demand 2, second sentence, and document 02, P2 and P3: text of the newest edition, what is written, and text of any edition; settings have 147 values
 pub record RoundTrips : Type 0 where
   pub accepted-writes-back : (text buffer : List ℕ) → editionOf text ≡ newest → readText text .answer ≡ DONE → length text ≤ length buffer
       → written (readText text .settings) buffer ≡ record { answer = DONE; buffer = text ++ drop (length text) buffer }
-  pub written-reads-back : (s : Settings) (buffer : List ℕ) → length (s .values) ≡ 148 → written s buffer .answer ≡ DONE
+  pub written-reads-back : (s : Settings) (buffer : List ℕ) → length (s .values) ≡ 147 → written s buffer .answer ≡ DONE
       → readText (take (length (textOf s)) (written s buffer .buffer)) ≡ record { answer = DONE; settings = s }
   pub older-reads-back : (text buffer : List ℕ) → readText text .answer ≡ DONE → length (textOf (readText text .settings)) ≤ length buffer
       → (written (readText text .settings) buffer .answer ≡ DONE)
       × (readText (take (length (textOf (readText text .settings))) (written (readText text .settings) buffer .buffer)) ≡ readText text)
 
--- what the code goes by, and what document 01 says: each name its key, one pass the eight merges, the ring's words the marks, a byte
--- of the row the move that sets the orbit count to 0, blocks that are tested first the blocks in turn, and low GTFE codes all held codes low
+-- what the code goes by, and what document 01 says: each name its key, the retired line its places in older text, one pass the eight
+-- merges, the ring's words the marks, a byte of the row the move that sets the orbit count to 0, blocks that are tested first the blocks
+-- in turn, and low GTFE codes all held codes low
 pub record Tied : Type 0 where
   pub names : NamedByKey
+  pub retired : Retired
   pub merge : OnePass
   pub marks : Marking
   pub orbits : OrbitsCleared

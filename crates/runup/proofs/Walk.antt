@@ -9,7 +9,7 @@ use lib.Dec.{eqb}
 use lib.ListN.{getD, length, replicate}
 use Rattle.laws.specs.Base.{if, one, highest, mapI, tabulate}
 use Rattle.laws.proofs.Bools.{one-le}
-use Rattle.settings.specs.Names.{orbitOf, rulesOf, warnBlocksOf}
+use Rattle.settings.specs.Names.{orbitOf, rulesOf}
 use Rattle.settings.specs.Standard.{standard}
 use Rattle.status.specs.Class.{ready, warning, classOf, counted}
 use Rattle.status.specs.Codes.{codeAt}
@@ -56,7 +56,7 @@ classesNow past warn = replicate 8 (if (believedNow past warn) warning ready)
 -- what all eight see of a crossing without a marker
 abbrev sceneAfter : Board → Past → Scene
 sceneAfter b past =
-    let free = freeAfter (rulesOf (b .settings)) (warnBlocksOf (b .settings)) (past .marks) in
+    let free = freeAfter (rulesOf (b .settings)) (past .marks) in
     record { number = numberOf (b .clock) false; holder = turnIn b false .holder; norm = free false; low = free true }
 
 -- of such a crossing, by what all eight see, their classes and the requests: f of each, the row, the next board and what is kept after it
@@ -108,7 +108,7 @@ module _ {b : Board} {past : Past} (f : Follows b past) (warn : Bool) (requests 
   unfolding sceneBy
   scene-same =
       let near : Near (rulesOf (b .settings)) = rw (f .std) near-standard in
-      let same = free-told (rulesOf (b .settings)) near (warnBlocksOf (b .settings)) (b .marks) (b .clock .crossings) (past .marks) (f .told) in
+      let same = free-told (rulesOf (b .settings)) near (b .marks) (b .clock .crossings) (past .marks) (f .told) in
       rw (same false, same true)
 
   held-same : heldIn b (crossingWith warn requests) ≡ heldNow past warn

@@ -68,13 +68,13 @@ each-apart (x ∷ l) e (suc i) (suc j) less h = each-apart l (both (absent x l) 
 each-apart (x ∷ l) e i zero less h = absurd (not-suc-le-zero less)
 
 -- the part of the values that is lent of a controller has its eleven numbers
-pub eleven : (k : ℕ) → 39 + 11 * k - (28 + 11 * k) ≡ 11
+pub eleven : (k : ℕ) → 38 + 11 * k - (27 + 11 * k) ≡ 11
 eleven k = omega arith
 
 -- ---- the ranges of the slots and of the schedules
 
 abbrev slotRanges : List Range
-slotRanges = take 8 (drop 20 (rangesOf valueLines))
+slotRanges = take 8 (drop 19 (rangesOf valueLines))
 
 abbrev byte : Range → Bool
 byte r = leb (r .high) 255
@@ -90,11 +90,11 @@ all-bytes = refl
 abbrev rangeOf : ℕ → Range
 rangeOf n = getD (rangesOf valueLines) n nowhere
 
-slot-high : (k : ℕ) → k < 8 → rangeOf (20 + k) .high ≤ 255
-slot-high k h = rw (← part 20 8 (rangesOf valueLines) nowhere k h) (leb-true _ _ (all-get byte slotRanges k nowhere all-bytes (omega (arith, slots))))
+slot-high : (k : ℕ) → k < 8 → rangeOf (19 + k) .high ≤ 255
+slot-high k h = rw (← part 19 8 (rangesOf valueLines) nowhere k h) (leb-true _ _ (all-get byte slotRanges k nowhere all-bytes (omega (arith, slots))))
 
 abbrev timeRanges : List Range
-timeRanges = take 88 (drop 28 (rangesOf valueLines))
+timeRanges = take 88 (drop 27 (rangesOf valueLines))
 
 abbrev number : Range → Bool
 number r = leb (r .high) 4095
@@ -107,17 +107,17 @@ all-numbers : allB number timeRanges ≡ true
 unfolding valueLines allB
 all-numbers = refl
 
-time-high : (n : ℕ) → n < 88 → rangeOf (28 + n) .high ≤ 4095
-time-high n h = rw (← part 28 88 (rangesOf valueLines) nowhere n h) (leb-true _ _ (all-get number timeRanges n nowhere all-numbers (omega (arith, times))))
+time-high : (n : ℕ) → n < 88 → rangeOf (27 + n) .high ≤ 4095
+time-high n h = rw (← part 27 88 (rangesOf valueLines) nowhere n h) (leb-true _ _ (all-get number timeRanges n nowhere all-numbers (omega (arith, times))))
 
 -- ---- settings whose values are in range
 
 module _ (s : Settings) (ok : outOfRange s ≡ 0) where
-  pub line-at : (n : ℕ) → n < 148 → within (rangeOf n) (after s n) ≡ true
+  pub line-at : (n : ℕ) → n < 147 → within (rangeOf n) (after s n) ≡ true
   unfolding outOfRange
   line-at n h = in-range-at (rangesOf valueLines) (s .values) 2 (lit< tt) ok n nowhere (omega (arith, ranged))
 
-  line : (n : ℕ) → n < 148 → (rangeOf n .low ≤ after s n) × (after s n ≤ rangeOf n .high)
+  line : (n : ℕ) → n < 147 → (rangeOf n .low ≤ after s n) × (after s n ≤ rangeOf n .high)
   line n h =
       let w = both (leb (rangeOf n .low) (after s n)) (leb (after s n) (rangeOf n .high)) (line-at n h) in
       (leb-true _ _ (w .0), leb-true _ _ (w .1))
@@ -127,23 +127,23 @@ module _ (s : Settings) (ok : outOfRange s ≡ 0) where
   times-fit k low i =
       ⊎-elim
       (λ (h : i < 11).
-      let w = line (28 + 11 * k + i) (omega arith) in
-      let here : 28 + (11 * k + i) ≡ 28 + 11 * k + i = omega arith in
+      let w = line (27 + 11 * k + i) (omega arith) in
+      let here : 27 + (11 * k + i) ≡ 27 + 11 * k + i = omega arith in
       let most = rw here at (time-high (11 * k + i) (omega arith)) in
-      rw (part (28 + 11 * k) 11 (s .values) 0 i h) (omega arith))
+      rw (part (27 + 11 * k) 11 (s .values) 0 i h) (omega arith))
       (λ (h : 11 ≤ i).
-      let past : length (timesOf s k) ≤ i = omega (arith, length-take 11 (drop (28 + 11 * k) (s .values))) in
+      let past : length (timesOf s k) ≤ i = omega (arith, length-take 11 (drop (27 + 11 * k) (s .values))) in
       rw (List·getD-eq-default (timesOf s k) 0 past) (lit< tt))
       (lt-or-ge i 11)
 
 -- ---- settings that pass the check
 
 module _ (s : Settings) (ok : checked s ≡ DONE) where
-  within-line : (n : ℕ) → n < 148 → (rangeOf n .low ≤ after s n) × (after s n ≤ rangeOf n .high)
+  within-line : (n : ℕ) → n < 147 → (rangeOf n .low ≤ after s n) × (after s n ≤ rangeOf n .high)
   within-line = line s (passed s ok .inside)
 
   slot-most : (k : ℕ) → k < 8 → slotOf s k ≤ 255
-  slot-most k h = let w = within-line (20 + k) (omega arith) in let most = slot-high k h in omega arith
+  slot-most k h = let w = within-line (19 + k) (omega arith) in let most = slot-high k h in omega arith
 
   pub bounded : Bounded s
   unfolding valueLines
@@ -158,10 +158,10 @@ module _ (s : Settings) (ok : checked s ≡ DONE) where
         third-high = within-line 7 (lit< tt) .1;
         fourth = within-line 10 (lit< tt) .0;
         fourth-high = within-line 10 (lit< tt) .1;
-        settle-resync = within-line 16 (lit< tt) .1;
-        settle-hard = within-line 17 (lit< tt) .1;
-        recover-resync = within-line 18 (lit< tt) .1;
-        recover-hard = within-line 19 (lit< tt) .1;
+        settle-resync = within-line 15 (lit< tt) .1;
+        settle-hard = within-line 16 (lit< tt) .1;
+        recover-resync = within-line 17 (lit< tt) .1;
+        recover-hard = within-line 18 (lit< tt) .1;
         slot = slot-most;
       }
 

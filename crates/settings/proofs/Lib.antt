@@ -1,5 +1,6 @@
 mod Stamps
 mod Ranges
 pub mod Passed
+pub mod Lows
 pub mod Bounds
 pub mod Standard

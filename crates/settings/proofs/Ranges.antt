@@ -19,20 +19,20 @@ use Rattle.settings.specs.declared.relations.Fault.{Fault}
 use Rattle.settings.specs.Relations.{relation, related}
 use Rattle.settings.specs.Check.{outOfRange, checked}
 
-pub ranged : length (rangesOf valueLines) ≡ 148
+pub ranged : length (rangesOf valueLines) ≡ 147
 unfolding valueLines
 ranged = refl
 
-apart : rangesOf lines ≡ opening .range ∷ (rangesOf valueLines ++ drop 149 (rangesOf lines))
+apart : rangesOf lines ≡ opening .range ∷ (rangesOf valueLines ++ drop 148 (rangesOf lines))
 unfolding lines opening valueLines
 apart = refl
 
-pub value-range : (n : ℕ) → n < 148 → getD (rangesOf valueLines) n nowhere ≡ rangeAt (suc n)
+pub value-range : (n : ℕ) → n < 147 → getD (rangesOf valueLines) n nowhere ≡ rangeAt (suc n)
 unfolding rangeAt
 value-range n h =
-    sym (ap (λ (rs : List Range). getD rs (suc n) nowhere) apart ∙ List·getD-append (rangesOf valueLines) (drop 149 (rangesOf lines)) nowhere n (omega (arith, ranged)))
+    sym (ap (λ (rs : List Range). getD rs (suc n) nowhere) apart ∙ List·getD-append (rangesOf valueLines) (drop 148 (rangesOf lines)) nowhere n (omega (arith, ranged)))
 
-module _ (vs : List ℕ) (n : ℕ) (long : length vs ≡ 148) (more : n < 148) (r : Range) (is : r ≡ rangeAt (n + 1)) where
+module _ (vs : List ℕ) (n : ℕ) (long : length vs ≡ 147) (more : n < 147) (r : Range) (is : r ≡ rangeAt (n + 1)) where
   same : getD (rangesOf valueLines) n nowhere ≡ r
   same = value-range n more ∙ sym (is ∙ ap rangeAt (add-one n))
 
@@ -45,7 +45,7 @@ module _ (vs : List ℕ) (n : ℕ) (long : length vs ≡ 148) (more : n < 148) (
       let line : suc (n + 2) ≡ n + 1 + 2 = omega arith in
       rw (← line) (out-later (rangesOf valueLines) vs n (n + 2) nowhere (omega (arith, ranged)) (omega arith) (rw same e))
 
-pub range-none : (vs : List ℕ) (n k : ℕ) → 148 ≤ n → firstOut (drop n (rangesOf valueLines)) k vs ≡ 0
+pub range-none : (vs : List ℕ) (n k : ℕ) → 147 ≤ n → firstOut (drop n (rangesOf valueLines)) k vs ≡ 0
 range-none vs n k done = out-none (rangesOf valueLines) vs n k (omega (arith, ranged))
 
 -- ---- the check

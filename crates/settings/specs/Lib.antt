@@ -1,4 +1,5 @@
 pub mod Names
+pub mod Lows
 pub mod Relations
 pub mod Check
 pub mod Standard

@@ -1,6 +1,5 @@
 -- Documents 01, "Settings text", and 02, P2: the values by name. With the methods of `src/names.rt`, the only place that says which is which.
 use Prim.Native.Nat.{ℕ, _+_, _*_, _%_}
-use mathlib.Core.Bool.{Bool}
 use mathlib.Core.List.{List}
 use lib.Dec.{eqb}
 use lib.ListN.{getD, take, drop}
@@ -29,25 +28,22 @@ ruleAfter s n = record { period = after s n; norm = after s (n + 1); low = after
 abbrev pub rulesOf : Settings → Rules
 rulesOf s = record { spacing = after s 3; second = ruleAfter s 4; third = ruleAfter s 7; fourth = ruleAfter s 10 }
 
-abbrev pub warnBlocksOf : Settings → Bool
-warnBlocksOf s = eqb (after s 13) 1
-
 abbrev pub ignoresOf : Settings → Ignores
-ignoresOf s = record { disc = eqb (after s 14) 1; bad = eqb (after s 15) 1 }
+ignoresOf s = record { disc = eqb (after s 13) 1; bad = eqb (after s 14) 1 }
 
 abbrev pub waitsOf : Settings → Waits
 waitsOf s = record {
-  settle = record { resync = after s 16; hard = after s 17 };
-  recover = record { resync = after s 18; hard = after s 19 };
+  settle = record { resync = after s 15; hard = after s 16 };
+  recover = record { resync = after s 17; hard = after s 18 };
 }
 
 -- controller k's slot, in tens of orbits
 abbrev pub slotOf : Settings → ℕ → ℕ
-slotOf s k = after s (20 + k)
+slotOf s k = after s (19 + k)
 
 -- document 02, P2: controller k's schedule. k is below 8; only so that it means something for any number it counts modulo 8
 abbrev pub timesAt : ℕ → ℕ
-timesAt k = 28 + 11 * (k % 8)
+timesAt k = 27 + 11 * (k % 8)
 
 abbrev pub scheduleOf : Settings → ℕ → Schedule
 scheduleOf s k = record {
@@ -66,8 +62,8 @@ scheduleOf s k = record {
 
 -- its eleven numbers, as a list
 abbrev pub timesOf : Settings → ℕ → List ℕ
-timesOf s k = take 11 (drop (28 + 11 * k) (s .values))
+timesOf s k = take 11 (drop (27 + 11 * k) (s .values))
 
 -- the controller of partition p, 8 for none
 abbrev pub partOf : Settings → ℕ → ℕ
-partOf s p = after s (116 + p)
+partOf s p = after s (115 + p)

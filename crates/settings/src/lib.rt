@@ -1,4 +1,4 @@
-// The settings: their 148 values by name, the standard ones, and the check that any must pass (documents 01, "Settings text", and 02, P2).
+// The settings: their 147 values by name, the standard ones, and the check that any must pass (documents 01, "Settings text", and 02, P2 and P3).
 mod names;
 mod relations;
 mod table;
@@ -19,7 +19,7 @@ ghost use Rattle.settings.specs.Standard.{standard};
 
 // The values in the order of the newest edition's lines. Only `names` knows which is which.
 pub struct Settings {
-    pub values: [u32; 148],
+    pub values: [u32; 147],
 }
 
 impl Settings {
@@ -39,7 +39,7 @@ impl Settings {
         let lows = keys::low_values();
         let highs = keys::high_values();
         let mut n = 0;
-        while n < 148 {
+        while n < 147 {
             let x = v[n];
             if !keys::range(&lows, &highs, n + 1).holds(x) {
                 return n + 2;

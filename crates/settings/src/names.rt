@@ -1,7 +1,8 @@
 // The settings by name: with `specs/Names.antt`, the only place that says which value is which.
 ghost use mathlib.Core.Path.{_≡_};
 ghost use Prim.Native.Nat.{_<_};
-ghost use Rattle.settings.specs.Names.{orbitOf, gapOf, rulesOf, warnBlocksOf, ignoresOf, waitsOf, slotOf, scheduleOf, partOf};
+ghost use Rattle.settings.specs.Names.{orbitOf, gapOf, rulesOf, ignoresOf, waitsOf, slotOf, scheduleOf, partOf};
+ghost use Rattle.settings.specs.Lows.{lowsCleared};
 
 // The crossings from `low` to `high` are closed to requests.
 pub struct Gap {
@@ -101,11 +102,15 @@ impl crate::Settings {
         }
     }
 
-    pub fn warn_blocks(self) -> bool
-        ensures { λ r. ⌜ r ≡ warnBlocksOf self ⌝ }
+    // The three low limits set to 0: no trigger is sent under warning.
+    pub fn lows_cleared(self) -> crate::Settings
+        ensures { λ r. ⌜ r ≡ lowsCleared self ⌝ }
     {
-        let v = self.values;
-        v[13] == 1
+        let mut v = self.values;
+        v[6] = 0;
+        v[9] = 0;
+        v[12] = 0;
+        crate::Settings { values: v }
     }
 
     pub fn ignores(self) -> Ignores
@@ -113,8 +118,8 @@ impl crate::Settings {
     {
         let v = self.values;
         Ignores {
-            disc: v[14] == 1,
-            bad: v[15] == 1,
+            disc: v[13] == 1,
+            bad: v[14] == 1,
         }
     }
 
@@ -123,12 +128,12 @@ impl crate::Settings {
     {
         let v = self.values;
         let settle = Pause {
-            resync: v[16],
-            hard: v[17],
+            resync: v[15],
+            hard: v[16],
         };
         let recover = Pause {
-            resync: v[18],
-            hard: v[19],
+            resync: v[17],
+            hard: v[18],
         };
         Waits {
             settle: settle,
@@ -141,7 +146,7 @@ impl crate::Settings {
         requires { ⌜ k < 8 ⌝ }
         ensures { λ r. ⌜ r ≡ slotOf self k ⌝ }
     {
-        self.values[20 + k]
+        self.values[19 + k]
     }
 
     // Controller k's eleven numbers, one after the other.
@@ -149,7 +154,7 @@ impl crate::Settings {
         ensures { λ r. ⌜ r ≡ scheduleOf self k ⌝ }
     {
         let v = self.values;
-        let a = 28 + 11 * (k % 8);
+        let a = 27 + 11 * (k % 8);
         Schedule {
             bc0: v[a],
             te: v[a + 1],
@@ -170,6 +175,6 @@ impl crate::Settings {
         requires { ⌜ p < 32 ⌝ }
         ensures { λ r. ⌜ r ≡ partOf self p ⌝ }
     {
-        self.values[116 + p]
+        self.values[115 + p]
     }
 }

@@ -142,7 +142,7 @@ impl Settings {
         let orbit = v[0];
         let mut k = 0;
         while k < 8 {
-            if !all_below(&v[28 + 11 * k..39 + 11 * k], orbit) {
+            if !all_below(&v[27 + 11 * k..38 + 11 * k], orbit) {
                 return k;
             }
             k += 1;
@@ -159,7 +159,7 @@ impl Settings {
         let mut seen = [0u8; 4096];
         let mut k = 0;
         while k < 8 {
-            if !stamp_all(&mut seen, &v[28 + 11 * k..39 + 11 * k], k as u8 + 1) {
+            if !stamp_all(&mut seen, &v[27 + 11 * k..38 + 11 * k], k as u8 + 1) {
                 return k;
             }
             k += 1;

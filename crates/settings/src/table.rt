@@ -2,7 +2,7 @@
 ghost use mathlib.Core.Path.{_≡_};
 ghost use Rattle.settings.specs.Standard.{standardValues};
 
-const STANDARD: [u32; 148] = [
+const STANDARD: [u32; 147] = [
     // orbit
     3564,
     // gap_low, gap_high
@@ -22,8 +22,7 @@ const STANDARD: [u32; 148] = [
     240,
     4,
     2,
-    // warn_blocks, ignore_disc, ignore_bad
-    0,
+    // ignore_disc, ignore_bad
     0,
     0,
     // settle_resync, settle_hard, recover_resync, recover_hard
@@ -171,7 +170,7 @@ const STANDARD: [u32; 148] = [
     0,
 ];
 
-pub(crate) fn standard_values() -> [u32; 148]
+pub(crate) fn standard_values() -> [u32; 147]
     ensures { λ r. ⌜ r ≡ standardValues ⌝ }
 {
     STANDARD

@@ -39,7 +39,7 @@ neither : (a b : Bool) → a || b ≡ false → (a ≡ false) × (b ≡ false)
 neither true b e = absurd (false≢true (sym e))
 neither false b e = (refl, e)
 
-module _ (times : List ℕ) (waits : Waits) (gap : Gap) (rules : Rules) (blocks : Bool) (sight : Sight) (marks : List ℕ) (clock : Clock) (ps : List Ptc) where
+module _ (times : List ℕ) (waits : Waits) (gap : Gap) (rules : Rules) (sight : Sight) (marks : List ℕ) (clock : Clock) (ps : List Ptc) where
   abbrev plans : ℕ → Plan
   plans = planFrom times waits gap
 
@@ -47,15 +47,15 @@ module _ (times : List ℕ) (waits : Waits) (gap : Gap) (rules : Rules) (blocks 
   holding = getD ps (sight .turn .holder % 8) freshPtc
 
   abbrev seen : Scene
-  seen = sceneFor times waits rules blocks holding sight marks clock
+  seen = sceneFor times waits rules holding sight marks clock
 
   -- the whole throttle
   abbrev pub wholeScene : Scene
   wholeScene = record {
     number = numberOf clock (sight .marker);
     holder = sight .turn .holder;
-    norm = free rules blocks marks (clock .crossings) false;
-    low = free rules blocks marks (clock .crossings) true;
+    norm = free rules marks (clock .crossings) false;
+    low = free rules marks (clock .crossings) true;
   }
 
   numbers : seen .number ≡ wholeScene .number
@@ -89,7 +89,7 @@ module _ (times : List ℕ) (waits : Waits) (gap : Gap) (rules : Rules) (blocks 
 
   own-free : (k : ℕ) → k ≡ sight .turn .holder → k < 8 → asks ≡ true → freeIn seen (movesTo k) ≡ freeIn wholeScene (movesTo k)
   unfolding sceneFor asks
-  own-free k e h a = rw (a, same-move k e h) (by-state (λ w. free rules blocks marks (clock .crossings) w) (movesTo k))
+  own-free k e h a = rw (a, same-move k e h) (by-state (λ w. free rules marks (clock .crossings) w) (movesTo k))
 
   idle : (k : ℕ) → k ≡ sight .turn .holder → k < 8 → asks ≡ false → (askedIn (sight .requests) k ≡ false) × (getD ps k freshPtc .cycle ≡ 0)
   unfolding asks

@@ -158,13 +158,12 @@ impl Sight {
         times: &[u32; 88],
         waits: Waits,
         rules: Rules,
-        blocks: bool,
         p: Ptc,
         marks: &[u64; 32],
         clock: Clock,
     ) -> Scene
         requires { ⌜ Sensible rules ⌝ }
-        ensures { λ r. ⌜ r ≡ sceneFor (now (times .entry)) waits rules blocks p self (now (marks .entry)) clock ⌝ }
+        ensures { λ r. ⌜ r ≡ sceneFor (now (times .entry)) waits rules p self (now (marks .entry)) clock ⌝ }
     {
         let number = clock.number(self.marker);
         let holder = self.turn.holder;
@@ -173,7 +172,7 @@ impl Sight {
             let h = (holder % 8) as usize;
             let classes = self.classes;
             let warn = is_warned(p, times, waits, number, holder, classes[h]);
-            free = throttle::free(marks, rules, blocks, clock.crossings, warn);
+            free = throttle::free(marks, rules, clock.crossings, warn);
         }
         Scene {
             number: number,

@@ -24,11 +24,11 @@ pub record Plain (r : Rule) : Type 0 where
   pub order : r .low ≤ r .norm
 
 -- a free trigger is allowed by each of the four rules
-pub free-allows : (r : Rules) (blocks : Bool) (ws : List ℕ) (n : ℕ) (warn : Bool) → free r blocks ws n warn ≡ true
+pub free-allows : (r : Rules) (ws : List ℕ) (n : ℕ) (warn : Bool) → free r ws n warn ≡ true
     → (k : ℕ) → k < 4 → allows ws n warn (getD (rulesList r) k (spacingRule r)) ≡ true
 unfolding free
-free-allows r blocks ws n warn e k h =
-    all-get (allows ws n warn) (rulesList r) k (spacingRule r) (both (not (warn && blocks)) (allB (allows ws n warn) (rulesList r)) e .1) h
+free-allows r ws n warn e k h =
+    all-get (allows ws n warn) (rulesList r) k (spacingRule r) e h
 
 -- ---- the rules over a ring are the rules over a list that tells the same
 
@@ -43,9 +43,9 @@ pub record Near (r : Rules) : Type 0 where
   pub three : r .third .period ≤ 2047
   pub four : r .fourth .period ≤ 2047
 
-pub free-told : (r : Rules) → Near r → (blocks : Bool) (ws : List ℕ) (n : ℕ) (ms : List ℕ) → Tells ws n ms → (warn : Bool) → free r blocks ws n warn ≡ freeAfter r blocks ms warn
+pub free-told : (r : Rules) → Near r → (ws : List ℕ) (n : ℕ) (ms : List ℕ) → Tells ws n ms → (warn : Bool) → free r ws n warn ≡ freeAfter r ms warn
 unfolding free freeAfter allB
-free-told r near blocks ws n ms t warn =
+free-told r near ws n ms t warn =
     rw (
       allows-told ws n ms t warn (spacingRule r) (near .one),
       allows-told ws n ms t warn (r .second) (near .two),

@@ -3,5 +3,5 @@ pub mod Ring
 mod Words
 pub mod Sound
 pub mod Windows
-mod Refusals
+pub mod Refusals
 pub mod Instances

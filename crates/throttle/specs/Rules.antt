@@ -1,6 +1,6 @@
 -- Document 01, "Throttle": the four rules, each a period of crossings and the triggers that it may hold, this crossing's among them.
 use Prim.Native.Nat.{ℕ, _+_, _-_, _^_, _<_}
-use mathlib.Core.Bool.{Bool, not, _&&_}
+use mathlib.Core.Bool.{Bool}
 use mathlib.Core.List.{List, [], _∷_}
 use lib.Dec.{leb}
 use Rattle.laws.specs.Base.{if, allB}
@@ -23,9 +23,9 @@ limitOf r warn = if warn (r .low) (r .norm)
 unfoldable pub allows : (ws : List ℕ) (n : ℕ) (warn : Bool) (r : Rule) → Bool
 allows ws n warn r = leb (among ws n (r .period - 1) + 1) (limitOf r warn)
 
--- a trigger is free: not refused in WARN by warn_blocks, and not by any of the four rules
-unfoldable pub free : (r : Rules) (blocks : Bool) (ws : List ℕ) (n : ℕ) (warn : Bool) → Bool
-free r blocks ws n warn = not (warn && blocks) && allB (allows ws n warn) (rulesList r)
+-- a trigger is free: not refused by any of the four rules
+unfoldable pub free : (r : Rules) (ws : List ℕ) (n : ℕ) (warn : Bool) → Bool
+free r ws n warn = allB (allows ws n warn) (rulesList r)
 
 -- what of checked settings the arithmetic needs
 pub record Sensible (r : Rules) : Type 0 where

@@ -1,7 +1,7 @@
 -- The window fact, about a list of marks, the newest first: what a rule of any period and any limit keeps.
 use Prim.Native.Nat.{ℕ, zero, suc, _+_, _-_, _≤_, _<_}
 use mathlib.Core.Path.{_≡_}
-use mathlib.Core.Bool.{Bool, not, _&&_}
+use mathlib.Core.Bool.{Bool}
 use mathlib.Core.List.{List, [], _∷_}
 use lib.Dec.{leb}
 use lib.ListN.{getD}
@@ -31,6 +31,6 @@ pub record Tells (ws : List ℕ) (n : ℕ) (ms : List ℕ) : Type 0 where
 abbrev pub allowsAfter : List ℕ → Bool → Rule → Bool
 allowsAfter ms warn r = leb (countOf (r .period - 1) ms + 1) (limitOf r warn)
 
--- a trigger is free: not refused in WARN by warn_blocks, and not by any of the four rules
-unfoldable pub freeAfter : Rules → Bool → List ℕ → Bool → Bool
-freeAfter r blocks ms warn = not (warn && blocks) && allB (allowsAfter ms warn) (rulesList r)
+-- a trigger is free: not refused by any of the four rules
+unfoldable pub freeAfter : Rules → List ℕ → Bool → Bool
+freeAfter r ms warn = allB (allowsAfter ms warn) (rulesList r)

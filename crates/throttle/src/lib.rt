@@ -143,11 +143,12 @@ impl Counted {
 }
 
 // Whether a trigger is free after n crossings, by the low limits under warning. The first rule that refuses decides.
-pub fn free(marks: &[u64; 32], rules: Rules, blocks: bool, n: u64, warn: bool) -> bool
+pub fn free(marks: &[u64; 32], rules: Rules, n: u64, warn: bool) -> bool
     requires { ⌜ Sensible rules ⌝ }
-    ensures { λ r. ⌜ r ≡ free rules blocks (now (marks .entry)) n warn ⌝ }
+    ensures { λ r. ⌜ r ≡ free rules (now (marks .entry)) n warn ⌝ }
 {
-    if plain::both(warn, blocks) {
+    // A limit of 0 refuses whatever is counted: so text that sends nothing under warning counts nothing there.
+    if limit(rules.second, warn) == 0 {
         return false;
     }
     let spacing = Rule {

@@ -1,4 +1,5 @@
 mod By
 mod Equal
-mod First
+mod Lowered
+mod Older
 pub mod AsBefore

@@ -1,3 +1,3 @@
 pub mod Run
-pub mod First
+pub mod Older
 pub mod AsBefore

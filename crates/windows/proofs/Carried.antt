@@ -14,7 +14,7 @@ use Rattle.laws.proofs.Tests.{either, same-or-not}
 use Rattle.laws.proofs.All.{all-get}
 use Rattle.laws.proofs.Over.{length-mapI}
 use Rattle.settings.specs.declared.Settings.{Settings}
-use Rattle.settings.specs.Names.{rulesOf, warnBlocksOf}
+use Rattle.settings.specs.Names.{rulesOf}
 use Rattle.throttle.specs.Rules.{allows, free}
 use Rattle.throttle.proofs.Instances.{free-allows}
 use Rattle.states.specs.Names.{WARN}
@@ -47,7 +47,7 @@ module _ (row : List ℕ) where
   none-sent (suc n) each =
       omega (arith, none-sent n (λ k h. each k (omega arith)), silent-sum (sentIn row n) (calIn row n) (each n (omega arith)))
 
-  some-sent : (n k : ℕ) → k < n → sendsIn row k ≡ true → 1 ≤ triggersOf row n
+  pub some-sent : (n k : ℕ) → k < n → sendsIn row k ≡ true → 1 ≤ triggersOf row n
   unfolding triggersOf
   some-sent zero k h e = absurd (omega arith)
   some-sent (suc n) k h e =
@@ -140,14 +140,14 @@ module _ {s : Settings} {log buffer : List ℕ} (t : Taken s log buffer) {i : �
   -- ---- what a trigger was allowed by
 
   pub free-seen : (state : ℕ) → freeIn (sceneIn s log i) state
-      ≡ free (rulesOf s) (warnBlocksOf s) (before .marks) (before .clock .crossings) (eqb state WARN)
+      ≡ free (rulesOf s) (before .marks) (before .clock .crossings) (eqb state WARN)
   unfolding sceneBy
   free-seen state =
       go (eqb state WARN)
-      ∙ ap (λ (x : Settings). free (rulesOf x) (warnBlocksOf x) (before .marks) (before .clock .crossings) (eqb state WARN)) (own-settings s log i)
+      ∙ ap (λ (x : Settings). free (rulesOf x) (before .marks) (before .clock .crossings) (eqb state WARN)) (own-settings s log i)
     where
       go : (w : Bool) → if w (sceneIn s log i .low) (sceneIn s log i .norm)
-          ≡ free (rulesOf (before .settings)) (warnBlocksOf (before .settings)) (before .marks) (before .clock .crossings) w
+          ≡ free (rulesOf (before .settings)) (before .marks) (before .clock .crossings) w
       go true = refl
       go false = refl
 
@@ -163,5 +163,5 @@ module _ {s : Settings} {log buffer : List ℕ} (t : Taken s log buffer) {i : �
   allowed k low e r h =
       let state = crossedIn s log i k .ptc .state in
       rw (warns-told t c k low)
-      (free-allows (rulesOf s) (warnBlocksOf s) (before .marks) (before .clock .crossings) (eqb state WARN)
+      (free-allows (rulesOf s) (before .marks) (before .clock .crossings) (eqb state WARN)
       (sym (free-seen state) ∙ free-then k low e) r h)

@@ -14,7 +14,7 @@ use Rattle.laws.proofs.Bools.{both}
 use Rattle.laws.proofs.Tests.{either}
 use Rattle.answer.specs.Told.{DONE}
 use Rattle.settings.specs.declared.Settings.{Settings}
-use Rattle.settings.specs.Names.{rulesOf, warnBlocksOf}
+use Rattle.settings.specs.Names.{rulesOf}
 use Rattle.settings.specs.Check.{checked}
 use Rattle.settings.proofs.Bounds.{bounded, ordered}
 use Rattle.throttle.specs.Marks.{passed}
@@ -38,7 +38,7 @@ use Rattle.logbook.specs.Whole.{Taken, Crossing, whole}
 use Rattle.logbook.proofs.Ground.{fit-at}
 use Rattle.logbook.proofs.Seen.{sceneIn}
 use Rattle.windows.specs.Windows.{crossingRows, triggers, inStretch, ruleAt, sentWarned, Windows}
-use Rattle.windows.proofs.Carried.{carried, bit, sent-one, who-sent, free-seen, allowed}
+use Rattle.windows.proofs.Carried.{some-sent, carried, bit, sent-one, who-sent, free-seen, allowed}
 
 -- ---- the four rules, as the window fact has them
 
@@ -103,11 +103,11 @@ module _ {s : Settings} {log buffer : List ℕ} (t : Taken s log buffer) where
   near-rules = omega (arith, bounded s (t .checks))
 
   pub clear-told : {i : ℕ} → Crossing log i → (state : ℕ)
-      → freeIn (sceneIn s log i) state ≡ freeAfter (rulesOf s) (warnBlocksOf s) (sofar i) (eqb state WARN)
+      → freeIn (sceneIn s log i) state ≡ freeAfter (rulesOf s) (sofar i) (eqb state WARN)
   clear-told {i} c state =
       let told = tells i (omega (arith, c .among)) in
       free-seen t c state
-      ∙ free-told (rulesOf s) near-rules (warnBlocksOf s) (before i .marks) (before i .clock .crossings) (sofar i) told (eqb state WARN)
+      ∙ free-told (rulesOf s) near-rules (before i .marks) (before i .clock .crossings) (sofar i) told (eqb state WARN)
 
   -- ---- each rule keeps its normal limit, and a trigger sent under warning the low one
 
@@ -167,9 +167,32 @@ module _ {s : Settings} {log buffer : List ℕ} (t : Taken s log buffer) where
         (λ (q : isCrossing (recAt log i) ≡ false). rw q (older from (rw q at e)))
         (either (isCrossing (recAt log i)))
 
+-- ---- a low limit of 0
+
+-- a stretch that ends with a trigger holds one
+ends-with-one : (long : ℕ) → 0 < long → (rows : List (List ℕ)) (from k : ℕ) → k < 8 → sendsIn (getD rows from []) k ≡ true → 1 ≤ inStretch long from rows
+unfolding countOf
+ends-with-one long some [] from k less e = absurd (false≢true e)
+ends-with-one zero some (row ∷ rows) zero k less e = absurd (omega arith)
+ends-with-one (suc long) some (row ∷ rows) zero k less e = omega (arith, some-sent row 8 k less e)
+ends-with-one long some (row ∷ rows) (suc from) k less e = ends-with-one long some rows from k less e
+
+none-warned : (long limit : ℕ) → 0 < long → limit ≡ 0 → (rows : List (List ℕ)) (from k : ℕ) → k < 8
+    → (sentWarned (getD rows from []) k ≡ true → inStretch long from rows ≤ limit) → sentWarned (getD rows from []) k ≡ false
+none-warned long limit some z rows from k less most =
+    ⊎-elim
+    (λ (e : sentWarned (getD rows from []) k ≡ true).
+    let sends = both (sendsIn (getD rows from []) k) (warnsIn (getD rows from []) k) e .0 in
+    absurd (omega (arith, z, most e, ends-with-one long some rows from k less sends)))
+    (λ (e : sentWarned (getD rows from []) k ≡ false). e)
+    (either (sentWarned (getD rows from []) k))
+
 pub windows : Windows
 windows s log buffer t r four =
     record {
       normal = rule-window (ruleAt s r) (plain t r four) (sofar t (recordsIn log)) (kept t r four (recordsIn log) (omega arith));
       low = λ from k less. low-then t r four (recordsIn log) (omega arith) k less from;
+      none = λ z from k less.
+          none-warned (ruleAt s r .period) (ruleAt s r .low) (plain t r four .some) z (crossingRows log (whole s log buffer .rows) (recordsIn log)) from k less
+          (low-then t r four (recordsIn log) (omega arith) k less from);
     }

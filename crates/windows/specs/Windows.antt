@@ -1,7 +1,7 @@
 -- Demand 3, second sentence: over the whole log, how many triggers a stretch as long as a rule's period may hold.
 use Prim.Native.Nat.{ℕ, zero, suc, _≤_, _<_}
 use mathlib.Core.Path.{_≡_}
-use mathlib.Core.Bool.{Bool, true, _&&_}
+use mathlib.Core.Bool.{Bool, true, false, _&&_}
 use mathlib.Core.List.{List, [], _∷_, map}
 use lib.ListN.{getD, drop}
 use Rattle.laws.specs.Base.{if}
@@ -39,10 +39,12 @@ abbrev pub sentWarned : List ℕ → ℕ → Bool
 sentWarned row k = sendsIn row k && warnsIn row k
 
 -- no stretch as long as the period holds more than the normal limit; the one that ends with a trigger sent under warning holds at
--- most the low limit. Of a stretch that ends without one, a low limit is not claimed: it may have begun under READY
+-- most the low limit, so with a low limit of 0 none is sent. Of a stretch that ends without one, a low limit is not claimed: it may have
+-- begun under READY
 pub record Throttled (r : Rule) (rows : List (List ℕ)) : Type 0 where
   pub normal : (from : ℕ) → inStretch (r .period) from rows ≤ r .norm
   pub low : (from k : ℕ) → k < 8 → sentWarned (getD rows from []) k ≡ true → inStretch (r .period) from rows ≤ r .low
+  pub none : r .low ≡ 0 → (from k : ℕ) → k < 8 → sentWarned (getD rows from []) k ≡ false
 
 -- of any log that a fresh board accepts, for each rule
 abbrev pub Windows : Type 0

@@ -4,18 +4,19 @@
 use crate::merge::{merge, Merged};
 use crate::settings::*;
 use crate::steady::Held;
+use crate::trigger::{throttle, Throttle};
 
 #[rustfmt::skip]
 #[derive(Clone, Copy, PartialEq, Eq)]
 pub enum Cycle { None, Armed, Open }
 
-/// Why a request or a calibration trigger was lost; for the throttle, what refused first.
+/// Why a request or a calibration trigger was lost; for the throttle, the rule that refused first.
 #[rustfmt::skip]
 #[derive(Clone, Copy, PartialEq, Eq)]
-pub enum Lost { State, Slot, Gap, Cal, WarnBlocks, Rule1, Rule2, Rule3, Rule4 }
+pub enum Lost { State, Slot, Gap, Cal, Rule1, Rule2, Rule3, Rule4 }
 
-/// The throttle's place among the five causes: itself and all after it are the throttle's.
-pub const THROTTLE: usize = Lost::WarnBlocks as usize;
+/// The throttle's place among the five causes: rule 1 and all after it are the throttle's.
+pub const THROTTLE: usize = Lost::Rule1 as usize;
 
 /// Places of the run counts, in the report's order; from `LOST` on the five causes.
 #[rustfmt::skip]
@@ -35,6 +36,8 @@ pub struct Controller {
 
 pub struct Board {
     pub settings: Settings,
+    /// The throttle of `trigger.rs`; in the model's own checks also the older desk's.
+    pub throttle: Throttle,
     pub crossings: usize,
     pub expected: usize,
     pub orbit: usize,
@@ -72,7 +75,8 @@ impl Board {
         let orbits_left = if holder == 8 { 0 } else { 10 * settings[SLOT0 + holder] };
         let idle = Controller { state: 0, wait: 0, cycle: Cycle::None, counts: [0; 10], events: 0 };
         let (held, controllers, triggers) = (Held::all(0), vec![idle; 8], Vec::new());
-        Board { settings, crossings: 0, expected: 0, orbit: 0, bc_errors: 0, holder, orbits_left, held, controllers, triggers }
+        let (crossings, expected, orbit, bc_errors) = (0, 0, 0, 0);
+        Board { settings, throttle, crossings, expected, orbit, bc_errors, holder, orbits_left, held, controllers, triggers }
     }
 
     pub fn record(&mut self, record: &[u8]) -> Done {

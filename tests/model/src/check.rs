@@ -1,15 +1,16 @@
-//! The model's own tests: document 01's printed case and worked figures, read with believed codes (document 02, P1), some of
-//! DESIGN's open points, and P1's own sequences of codes. Those of P2 are in `check_editions.rs` and `check_schedules.rs`.
+//! The model's own tests: document 01's printed case and worked figures, read with believed codes (document 02, P1), and some of
+//! DESIGN's open points. Those of P1 are in `check_steady.rs`, of P2 in `check_editions.rs` and `check_schedules.rs`, of P3 in
+//! `check_older.rs`.
 
 use crate::board::{Board, Cycle};
-use crate::edition::{write, Edition};
+use crate::edition::{write, Edition, Own};
 use crate::merge::{merge, Merged};
 use crate::program::{run, BLOCK, BYTES};
 use crate::refusal::Refusal;
 use crate::report::{report, row};
 use crate::settings::*;
-use crate::steady::{carried, Held, GTFE, INPUTS};
-use crate::{check_editions, check_schedules, edition};
+use crate::steady::{carried, Held, INPUTS};
+use crate::{check_editions, check_older, check_schedules, check_steady, edition};
 use std::process::ExitCode;
 
 const PRINTED: &str = "crossings=1\norbit=0\nbc_errors=0\nholder=0\nptc=0\nstate=0\nrequested=1\naccepted=0\nlost_state=1\n\
@@ -18,8 +19,8 @@ const PRINTED: &str = "crossings=1\norbit=0\nbc_errors=0\nholder=0\nptc=0\nstate
 pub type Cases = Vec<(&'static str, bool)>;
 
 pub fn check() -> ExitCode {
-    let base = [figures(), merges(), moves(), cycles(), texts(), blocks(), sequences(), between()].concat();
-    let cases = [base, check_editions::cases(), check_schedules::cases()].concat();
+    let base = [figures(), merges(), moves(), cycles(), texts(), blocks()].concat();
+    let cases = [base, check_steady::cases(), check_editions::cases(), check_schedules::cases(), check_older::cases()].concat();
     let failed: Vec<_> = cases.iter().filter(|(_, holds)| !holds).collect();
     failed.iter().for_each(|(name, _)| println!("failed: {name}"));
     println!("{} passed, {} failed", cases.len() - failed.len(), failed.len());
@@ -60,17 +61,17 @@ fn sent(first: usize, requests: fn(usize) -> bool, code: fn(usize) -> u8) -> (Ve
 fn figures() -> Cases {
     let (to_250, standard): (fn(usize) -> bool, _) = (|t| t <= 250, Settings::standard());
     let printed = |edition: Edition| {
-        let outcome = run(edition.text(&standard).as_bytes(), &crossing(0, 1, 8), &mut |_, _| {});
+        let outcome = run(edition.text(&Own::of(&standard)).as_bytes(), &crossing(0, 1, 8), &mut |_, _| {});
         outcome.map(|(board, _)| report(&board)).as_deref() == Ok(PRINTED)
     };
-    let (in_edition_1, in_edition_2) = (printed(Edition::First), printed(Edition::Second));
-    let mut started = Board::fresh(standard);
+    let mut started = Board::fresh(standard.clone());
     started.command(0, 1);
     let rows = (0..7430).map(|t| (t, row(&started.record(&crossing(0, 1, 8)))[0]));
     let codes: Vec<(usize, u8)> = rows.filter(|(_, byte)| ![0, 1, 11].contains(byte)).collect();
     vec![
-        ("the printed case, edition 1", in_edition_1),
-        ("the printed case, edition 2", in_edition_2),
+        ("the printed case, edition 1", printed(Edition::First)),
+        ("the printed case, edition 2", printed(Edition::Second)),
+        ("the printed case, edition 3", printed(Edition::Third)),
         ("READY", sent(500, to_250, |_| 8).0 == [0, 3, 25, 100, 240, 243]),
         ("WARN", sent(500, to_250, |_| 1).0 == [0, 25, 240]),
         ("WARN believed from t+4", sent(500, to_250, |t| if t < 3 { 8 } else { 1 }).0 == [0, 3, 240]),
@@ -156,7 +157,7 @@ fn cycles() -> Cases {
 
 /// Document 01's own text, now edition 1.
 fn texts() -> Cases {
-    let standard = Edition::First.text(&Settings::standard());
+    let standard = Edition::First.text(&Own::of(&Settings::standard()));
     let refused = |from: &str, to: &str| edition::read(standard.replace(from, to).as_bytes()).err();
     let cut = |bytes: usize| edition::read(&standard.as_bytes()[..bytes]).err();
     let unordered = standard.replace("at_te=3400", "at_te=3491");
@@ -187,74 +188,5 @@ fn blocks() -> Cases {
         ("LENGTH before RECORD in a block", refused(&spoilt[..BLOCK - 1]) == Some(Refusal::Length)),
         ("RECORD in a block before the broken tail", refused(&spoilt[..BLOCK + 1]) == Some(Refusal::Record(3))),
         ("the index counts within the block", refused(&late) == Some(Refusal::Record(0))),
-    ]
-}
-
-/// Whether a fresh board, all inputs carrying the given codes, believes the given ones of all inputs, crossing by crossing.
-fn believes(carried: &[u8], believed: &[u8]) -> bool {
-    let mut board = Board::fresh(Settings::standard());
-    carried.iter().zip(believed).all(|(&carried, &believed)| {
-        board.record(&crossing(0, 0, carried));
-        board.held.believed == [believed; INPUTS]
-    })
-}
-
-/// The states of controller 0, from READY on, while all inputs carry the codes.
-fn ready_then(codes: &[u8]) -> Vec<usize> {
-    let mut board = board(Settings::standard(), 7, 9, 8);
-    let mut state = |code: &u8| {
-        board.record(&crossing(0, 0, *code));
-        board.controllers[0].state
-    };
-    codes.iter().map(&mut state).collect()
-}
-
-fn sequences() -> Cases {
-    let mut settings = with(RECOVER_RESYNC, 0);
-    (settings.at[0][AT_BC0], settings.at[0][AT_RESYNC]) = (100, 0);
-    let fresh_then = |codes: [u8; 2]| {
-        let mut board = Board::fresh(settings.clone());
-        board.command(0, 1);
-        codes.iter().for_each(|&code| drop(board.record(&crossing(0, 0, code))));
-        board.controllers[0].state
-    };
-    let with_bytes = |bytes: &[(usize, u8)]| {
-        let mut board = board(Settings::standard(), 7, 9, 8);
-        for &(byte, value) in bytes {
-            let mut record = crossing(0, 0, 8);
-            record[byte] = value;
-            board.record(&record);
-        }
-        (0..INPUTS).filter(|&input| board.held.believed[input] == 4).collect::<Vec<_>>()
-    };
-    vec![
-        ("a fresh board believes 0", believes(&[8, 8], &[0, 8]) && believes(&[4, 8], &[0, 0])),
-        ("8 8 0 8", believes(&[8, 8, 0, 8], &[0, 8, 8, 8])),
-        ("8 8 0 4 0 4", believes(&[8, 8, 0, 4, 0, 4], &[0, 8, 8, 8, 8, 8])),
-        ("0 then 15", believes(&[8, 8, 0, 15, 15, 0], &[0, 8, 8, 8, 15, 15])),
-        ("a bounce past state 9", ready_then(&[0, 8, 0, 15, 0, 8]) == [7; 6]),
-        ("state 9 in the second crossing, and out in the second", ready_then(&[0, 0, 8, 8, 8]) == [7, 9, 9, 6, 7]),
-        ("state 2 looks at the fresh board's 0", fresh_then([8, 4]) == 18 && fresh_then([8, 8]) == 3),
-        ("the same code on another input", with_bytes(&[(5, 0x48), (6, 0x84), (3, 4), (20, 0x84)]).is_empty()),
-        ("one input alone", with_bytes(&[(5, 0x48), (5, 0x48)]) == [3] && with_bytes(&[(3, 4), (3, 4)]) == [GTFE]),
-    ]
-}
-
-/// Block ends, commands and markers between the two crossings that carry a code.
-fn between() -> Cases {
-    let text = write(&Settings::standard()).into_bytes();
-    let closing = |log: &[[u8; BYTES]]| run(&text, &log.concat(), &mut |_, _| {}).map(|(board, _)| board.held.believed);
-    let over_block_end =
-        |code, next| closing(&[&[crossing(0, 0, 8); 63][..], &[crossing(0, 0, code), crossing(0, 0, next)]].concat());
-    let mut command = [0; BYTES];
-    (command[0], command[2]) = (1, 1);
-    let over_commands =
-        |code, next| closing(&[crossing(0, 0, 8), crossing(0, 0, 8), crossing(0, 0, code), command, command, next]);
-    vec![
-        ("believed over a block end", over_block_end(4, 4) == Ok([4; INPUTS])),
-        ("a bounce at a block end", over_block_end(4, 8) == Ok([8; INPUTS]) && over_block_end(0, 4) == Ok([8; INPUTS])),
-        ("believed over commands", over_commands(4, crossing(0, 0, 4)) == Ok([4; INPUTS])),
-        ("believed over commands and a marker", over_commands(4, crossing(1, 0, 4)) == Ok([4; INPUTS])),
-        ("a bounce before commands", over_commands(4, crossing(1, 0, 8)) == Ok([8; INPUTS])),
     ]
 }

@@ -2,8 +2,8 @@
 
 use crate::board::{Board, Cycle};
 use crate::check::{board, crossing, with, Cases};
-use crate::edition::read;
 use crate::edition::Edition::{First, Second};
+use crate::edition::{values, Own};
 use crate::generate::generate;
 use crate::program::run;
 use crate::report::row;
@@ -112,12 +112,12 @@ fn calibrations() -> Cases {
 fn as_before() -> Cases {
     let same = |kind: &str, seed: usize| {
         let (text, log) = generate(kind, seed).unwrap_or_default();
-        let settings = read(&text).unwrap_or(Settings::standard());
+        let own = values(&text).unwrap_or(Own::of(&Settings::standard()));
         let rows = |text: &[u8]| run(text, &log, &mut |_, _| {}).map(|(_, rows)| rows);
-        let second = rows(Second.text(&settings).as_bytes());
+        let second = rows(Second.text(&own).as_bytes());
         text.starts_with(b"orbit=") && rows(&text) == second && second.is_ok_and(|rows| rows.len() == log.len() / 2)
     };
-    let other = later();
+    let other = Own::of(&later());
     let log: Vec<u8> = crossing(0, 0, 8).repeat(10);
     let rows = |text: String| run(text.as_bytes(), &log, &mut |_, _| {}).map(|(_, rows)| rows);
     vec![

@@ -1,7 +1,8 @@
-//! How often a range of seeds meets each thing that document 01 names, and document 02 up to P2; what P2
-//! adds is counted in `cover_schedules.rs`.
+//! How often a range of seeds meets each thing that document 01 names, and document 02 up to P3: the texts are counted in
+//! `cover_texts.rs`, what P2 adds to the runs in `cover_schedules.rs`, what P3 adds in `cover_older.rs`.
 
 use crate::board::{Board, Cycle, Did, Done, THROTTLE};
+use crate::cover_older::Source;
 use crate::cover_schedules::Calibrations;
 use crate::generate::{generate, KINDS};
 use crate::merge::{class, ignored, members, merge, Merged};
@@ -10,7 +11,7 @@ use crate::refusal::Refusal;
 use crate::steady::{Held, INPUTS};
 
 /// Groups of rows with their items, counted by place; a dash is a place that cannot come. A group without items is a row itself.
-const GROUPS: [(&str, &str); 37] = [
+const GROUPS: [(&str, &str); 49] = [
     ("state", "0 1 2 3 4 5 6 7 8 9 10 11 12 13 14 15 16 17 18 19"),
     ("merged", "none ready warning busy out_of_sync error bad disconnected"),
     ("ignored", "bad disconnected"),
@@ -18,9 +19,9 @@ const GROUPS: [(&str, &str); 37] = [
     ("lost", "state slot gap cal throttle"),
     ("sent", "READY WARN calibration"),
     ("code", "- 1 2 - - 5 6 7 8 9 10 11 - 13"),
-    ("first_in_READY", "- rule_1 rule_2 rule_3 rule_4"),
-    ("first_in_WARN", "warn_blocks rule_1 rule_2 rule_3 rule_4"),
-    ("cal_lost", "warn_blocks rule_1 rule_2 rule_3 rule_4"),
+    ("first_in_READY", "rule_1 rule_2 rule_3 rule_4"),
+    ("first_in_WARN", "rule_1 rule_2 rule_3 rule_4"),
+    ("cal_lost", "rule_1 rule_2 rule_3 rule_4"),
     ("taken", "- START STOP HARD RESYNC CALIBRATE PANIC"),
     ("not_taken", "- START STOP HARD RESYNC CALIBRATE -"),
     ("dropped", "move command slot"),
@@ -34,13 +35,13 @@ const GROUPS: [(&str, &str); 37] = [
     ("alternating", ""),
     ("disconnected", "0_then_15"),
     ("fresh", "0_decides"),
-    ("read", "- edition_1 edition_2"),
-    ("no_edition", "empty 1 02 99999 2_without_newline other"),
-    ("TEXT", "- edition_1 edition_2"),
-    ("tail", "- edition_1 edition_2"),
-    ("RANGE_shared", "- edition_1 edition_2"),
-    ("RANGE_of_schedule", "- edition_1 edition_2"),
-    ("key", "of_edition_2_in_1 of_edition_1_in_2 of_another_controller"),
+    ("read", "- edition_1 edition_2 edition_3"),
+    ("no_edition", "empty 1 02 99999 2_without_newline 3_without_newline 4 other"),
+    ("TEXT", "- edition_1 edition_2 edition_3"),
+    ("tail", "- edition_1 edition_2 edition_3"),
+    ("RANGE_shared", "- edition_1 edition_2 edition_3"),
+    ("RANGE_of_schedule", "- edition_1 edition_2 edition_3"),
+    ("key", "of_a_later_edition_in_1 of_edition_1_in_2 of_edition_1_in_3 of_another_controller"),
     ("relation_above_0", "- - 2 3 4"),
     ("relation_first", "before_later_at_lower before_same_at_higher"),
     ("edition_1_sent", "request calibration"),
@@ -48,6 +49,18 @@ const GROUPS: [(&str, &str); 37] = [
     ("own_number_without_slot", "- 1 - - - - - - - - - 11"),
     ("passed", "wte_of_0 te_of_0 cal_of_0"),
     ("calibrations", "asked_apart sent_apart at_te_of_another at_wte_of_another"),
+    ("warn_blocks_0", "- read_in_1 read_in_2"),
+    ("warn_blocks_1", "- read_in_1 read_in_2"),
+    ("warn_blocks_RANGE", "- in_1 in_2"),
+    ("warn_blocks_ill_formed", "- in_1 in_2"),
+    ("warn_blocks_missing", "- in_1 in_2"),
+    ("warn_blocks_key", "- - - in_3"),
+    ("relation_5", "- under_1_in_1 under_1_in_2 in_3"),
+    ("stopped_request", "- in_1 in_2"),
+    ("stopped_calibration", "- in_1 in_2"),
+    ("stopped_by_0_in_3", "request calibration"),
+    ("sent_in_WARN", "- in_1 in_2 in_3"),
+    ("sent_in_READY_under_1", "- in_1 in_2"),
 ];
 
 /// Counts by group and item.
@@ -67,10 +80,11 @@ pub fn cover(kind: &str, from: usize, to: usize) -> Option<String> {
         for seed in from..=to {
             let (text, log) = generate(kind, seed)?;
             let mut before = Before { held: Held::all(0), records: 0, last_crossing: 0 };
-            let mut calibrations = Calibrations::of(&text);
+            let (mut calibrations, source) = (Calibrations::of(&text), Source::of(&text));
             let mut watch = |board: &Board, done: &Done| {
                 table.record(&mut before, board, done);
                 table.schedules(&mut calibrations, board, done);
+                source.iter().for_each(|source| table.under_warning(source, board, done));
             };
             if let Err(refusal) = run(&text, &log, &mut watch) {
                 table.refusal(refusal);

@@ -1,6 +1,6 @@
 //! Test cases from a seed: settings text and log, the same on every machine.
 
-use crate::edition::Edition;
+use crate::edition::{Edition, Own};
 use crate::journal::{log, Manner};
 use crate::schedules::{resync_first, schedules, standard};
 use crate::settings::*;
@@ -29,11 +29,11 @@ impl Random {
     }
 }
 
-/// The settings text, in edition 1 for every third seed, and the log of a seed, or nothing for an unknown kind.
+/// The settings text, in each edition for every third seed, and the log of a seed, or nothing for an unknown kind.
 pub fn generate(kind: &str, seed: usize) -> Option<(Vec<u8>, Vec<u8>)> {
     let place = KINDS.iter().position(|known| *known == kind)?;
     let random = &mut Random((seed * 5 + place + 1).wrapping_mul(0x9E37_79B9_7F4A_7C15) as u64 | 1);
-    let edition = if seed % 3 == 0 { Edition::First } else { Edition::Second };
+    let edition = [Edition::First, Edition::Second, Edition::Third][seed % 3];
     let (settings, manner, records) = match kind {
         "valid" => (short(random, edition), Manner::Lively, 1000 + random.below(5000)),
         "edge" if random.once_in(5) => (long_window(random, edition), Manner::Standard, 4000 + random.below(5000)),
@@ -42,12 +42,24 @@ pub fn generate(kind: &str, seed: usize) -> Option<(Vec<u8>, Vec<u8>)> {
         _ if random.once_in(3) => (standard(random, edition), Manner::Lively, 40 + random.below(300)),
         _ => (short(random, edition), Manner::Lively, 40 + random.below(300)),
     };
-    let log = log(random, &settings, manner, records);
+    let own = under_warning(random, edition, settings);
+    let log = log(random, &own.retire(), manner, records);
     Some(match kind {
-        "text" => (damage_text::text(random, edition, settings, seed), log),
-        "log" => (edition.text(&settings).into_bytes(), damage_log::log(random, log)),
-        _ => (edition.text(&settings).into_bytes(), log),
+        "text" => (damage_text::text(random, edition, own, seed), log),
+        "log" => (edition.text(&own).into_bytes(), damage_log::log(random, log)),
+        _ => (edition.text(&own).into_bytes(), log),
     })
+}
+
+/// Half of the older texts have the value 1, mostly with low limits that would let triggers pass; some of the other texts, in all
+/// editions, have what it comes to, three low limits of 0.
+fn under_warning(random: &mut Random, edition: Edition, settings: Settings) -> Own {
+    let own = Own { settings, warn_blocks: 1 };
+    match random.below(10) {
+        0..=4 if edition != Edition::Third => own,
+        0 | 5 => Own::of(&own.retire()),
+        _ => Own::of(&own.settings),
+    }
 }
 
 /// Good settings on a short orbit, so that a short log comes round to everything.
@@ -58,7 +70,6 @@ fn short(random: &mut Random, edition: Edition) -> Settings {
     settings[GAP_LOW] = random.below(orbit);
     settings[GAP_HIGH] = (settings[GAP_LOW] + random.below(orbit / 3)).min(orbit - 1);
     short_rules(random, &mut settings);
-    settings[WARN_BLOCKS] = usize::from(random.once_in(3));
     settings[IGNORE_DISC] = usize::from(random.once_in(3));
     settings[IGNORE_BAD] = usize::from(random.once_in(3));
     (SETTLE_RESYNC..=RECOVER_HARD).for_each(|line| settings[line] = random.below(4));
@@ -136,7 +147,7 @@ fn edge_crossings(random: &mut Random, orbit: usize) -> Vec<usize> {
 fn edge_rules(random: &mut Random, settings: &mut Settings) {
     let (lines, wide) = (shared_lines(), random.once_in(3));
     settings[R1_GAP] = random.pick(&[2, 7, 7]);
-    for period in [R2_PERIOD, R3_PERIOD, R4_PERIOD] {
+    for period in RULES {
         let (norm, low, most) = (settings[period + 1], settings[period + 2], lines[period + 1].high);
         let limits = [(most, most), (0, 0), (norm, low), (norm, low), (norm, 0), (norm, norm), (most, low)];
         settings[period] = random.pick(&[lines[period].low, lines[period].high]);

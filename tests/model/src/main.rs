@@ -1,17 +1,23 @@
-//! An independent model of document 01 (the trigger desk) and document 02 up to P2, to test the product against. See README.md.
+//! An independent model of document 01 (the trigger desk) and document 02 up to P3, to test the product against. See README.md.
 
 mod board;
 mod check;
 mod check_editions;
+mod check_older;
 mod check_schedules;
+mod check_steady;
 mod cover;
+mod cover_older;
 mod cover_schedules;
+mod cover_texts;
 mod damage_log;
 mod damage_text;
+mod damage_values;
 mod edition;
 mod generate;
 mod journal;
 mod merge;
+mod older;
 mod program;
 mod refusal;
 mod report;

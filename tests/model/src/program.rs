@@ -10,10 +10,14 @@ use crate::report::row;
 pub const BYTES: usize = 24;
 pub const BLOCK: usize = 64 * BYTES;
 
-/// "Runs the log in blocks of 64 records, the last holding what is left with any broken tail": the last board and all
-/// rows, or the first refusal. `watch` sees the board after each record, and what it did.
+/// The settings text and then the log: the last board and all rows, or the first refusal.
 pub fn run(text: &[u8], log: &[u8], watch: &mut dyn FnMut(&Board, &Done)) -> Result<(Board, Vec<u8>), Refusal> {
-    let mut board = Board::fresh(read(text)?);
+    run_board(Board::fresh(read(text)?), log, watch)
+}
+
+/// "Runs the log in blocks of 64 records, the last holding what is left with any broken tail." `watch` sees the board after each
+/// record, and what it did.
+pub fn run_board(mut board: Board, log: &[u8], watch: &mut dyn FnMut(&Board, &Done)) -> Result<(Board, Vec<u8>), Refusal> {
     let mut rows = Vec::new();
     for block in log.chunks(BLOCK) {
         check(block)?;

@@ -5,7 +5,7 @@ use crate::generate::Random;
 use crate::settings::*;
 
 /// Eight schedules, those that are not the first drawn from any of the given sets of rising crossings. In edition 1, and now and
-/// then in edition 2, they are all the same; else some controllers have their own, or all have, or all have the same eleven
+/// then in the later ones, they are all the same; else some controllers have their own, or all have, or all have the same eleven
 /// crossings in another order, so that the calibration of one falls on the at_te or at_wte of another.
 pub fn schedules(random: &mut Random, edition: Edition, sets: &[Vec<usize>]) -> [Schedule; 8] {
     let first = schedule(random, sets[0].clone());
@@ -56,8 +56,8 @@ pub fn resync_first(settings: &mut Settings) {
     settings[RECOVER_RESYNC] = 0;
 }
 
-/// The standard settings, in edition 2 mostly with other schedules for controllers 1 to 7: the standard one later by so many
-/// crossings, or its eleven crossings in another order; and now and then with the slot at another controller.
+/// The standard settings, in the later editions mostly with other schedules for controllers 1 to 7: the standard one later by so
+/// many crossings, or its eleven crossings in another order; and now and then with the slot at another controller.
 pub fn standard(random: &mut Random, edition: Edition) -> Settings {
     let mut settings = Settings::standard();
     if edition == Edition::First || random.once_in(5) {

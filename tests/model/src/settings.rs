@@ -1,4 +1,5 @@
-//! Document 01, "Settings text", with document 02, P2: the values, their ranges and relations. The text is in `edition.rs`.
+//! Document 01, "Settings text", with document 02, P2 and P3: the values, their ranges and relations. "Settings values have no
+//! `warn_blocks` any more" (REQUESTS section 3). The text is in `edition.rs`.
 
 use std::ops::{Index, IndexMut};
 
@@ -7,10 +8,11 @@ use std::ops::{Index, IndexMut};
 mod place {
     pub const ORBIT: usize = 0; pub const GAP_LOW: usize = 1; pub const GAP_HIGH: usize = 2;
     pub const R1_GAP: usize = 3; pub const R2_PERIOD: usize = 4; pub const R3_PERIOD: usize = 7; pub const R4_PERIOD: usize = 10;
-    pub const WARN_BLOCKS: usize = 13; pub const IGNORE_DISC: usize = 14; pub const IGNORE_BAD: usize = 15;
-    pub const SETTLE_RESYNC: usize = 16; pub const SETTLE_HARD: usize = 17;
-    pub const RECOVER_RESYNC: usize = 18; pub const RECOVER_HARD: usize = 19;
-    pub const SLOT0: usize = 20; pub const PART0: usize = 28;
+    pub const IGNORE_DISC: usize = 13; pub const IGNORE_BAD: usize = 14;
+    pub const SETTLE_RESYNC: usize = 15; pub const SETTLE_HARD: usize = 16;
+    pub const RECOVER_RESYNC: usize = 17; pub const RECOVER_HARD: usize = 18;
+    pub const SLOT0: usize = 19; pub const PART0: usize = 27;
+    pub const RULES: [usize; 3] = [R2_PERIOD, R3_PERIOD, R4_PERIOD];
 }
 pub use place::*;
 
@@ -29,12 +31,12 @@ pub type Schedule = [usize; ELEVEN];
 
 /// Key, lowest and highest value, standard value of the shared lines that are neither slots nor partitions.
 #[rustfmt::skip]
-const NAMED: [(&str, usize, usize, usize); 20] = [
+const NAMED: [(&str, usize, usize, usize); 19] = [
     ("orbit", 64, 4096, 3564), ("gap_low", 0, 4095, 3444), ("gap_high", 0, 4095, 3563), ("r1_gap", 2, 7, 2),
     ("r2_period", 1, 63, 25), ("r2_norm", 0, 15, 2), ("r2_low", 0, 15, 1),
     ("r3_period", 64, 176, 100), ("r3_norm", 0, 63, 3), ("r3_low", 0, 63, 2),
     ("r4_period", 1, 2047, 240), ("r4_norm", 0, 511, 4), ("r4_low", 0, 511, 2),
-    ("warn_blocks", 0, 1, 0), ("ignore_disc", 0, 1, 0), ("ignore_bad", 0, 1, 0),
+    ("ignore_disc", 0, 1, 0), ("ignore_bad", 0, 1, 0),
     ("settle_resync", 0, 255, 12), ("settle_hard", 0, 255, 12), ("recover_resync", 0, 255, 1), ("recover_hard", 0, 255, 1),
 ];
 
@@ -51,7 +53,7 @@ pub struct Line {
     pub high: usize,
 }
 
-/// The lines of the values that all controllers share: the old lines without the eleven.
+/// The lines of the values that all controllers share: the old lines without `warn_blocks` and the eleven.
 pub fn shared_lines() -> Vec<Line> {
     let mut lines: Vec<Line> = NAMED.iter().map(|&(key, low, high, _)| Line { key: key.into(), low, high }).collect();
     lines.extend((0..8).map(|n| Line { key: format!("slot{n}"), low: 0, high: 255 }));
@@ -66,7 +68,7 @@ pub fn at_lines(begin: &str) -> Vec<Line> {
 
 /// "The eleven `at_` values become eight sets": the shared values by place, `settings[ORBIT]` being the first, and `at[n]`, the
 /// schedule of controller n.
-#[derive(Clone, PartialEq)]
+#[derive(Clone, PartialEq, Eq)]
 pub struct Settings {
     pub shared: Vec<usize>,
     pub at: [Schedule; 8],
@@ -114,7 +116,7 @@ impl Settings {
             2 => at.iter().all(|&crossing| crossing < self[ORBIT]),
             3 => (0..ELEVEN).all(|i| (0..i).all(|j| at[i] != at[j])),
             4 => at[AT_WTE] < at[AT_TE] && at[AT_TE] < at[AT_CAL],
-            _ => [R2_PERIOD, R3_PERIOD, R4_PERIOD].iter().all(|&period| self[period + 2] <= self[period + 1]),
+            _ => RULES.iter().all(|&period| self[period + 2] <= self[period + 1]),
         }
     }
 }

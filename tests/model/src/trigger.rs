@@ -1,8 +1,26 @@
 //! Document 01, "Cycle and trigger": step 4 of a crossing, by the state after the move and the controller's own schedule
-//! (document 02, P2).
+//! (document 02, P2), and without `warn_blocks` (P3).
 
 use crate::board::{count, Board, Cycle, Did, Lost, THROTTLE};
 use crate::settings::*;
+
+/// What a throttle answers by the settings, whether the state is WARN, and how many triggers so many crossings before had.
+pub type Throttle = fn(&Settings, bool, &dyn Fn(usize) -> usize) -> Result<(), Lost>;
+
+/// Refused "if any of the r1_gap crossings before had a trigger; or if for rule 2, 3 or 4 the triggers of the period−1 crossings
+/// before, plus this one, exceed the limit": since P3 the low limits are the one way to stop triggers under warning.
+pub fn throttle(settings: &Settings, warn: bool, triggers_before: &dyn Fn(usize) -> usize) -> Result<(), Lost> {
+    if triggers_before(settings[R1_GAP]) > 0 {
+        return Err(Lost::Rule1);
+    }
+    for (rule, period) in [Lost::Rule2, Lost::Rule3, Lost::Rule4].into_iter().zip(RULES) {
+        let limit = if warn { settings[period + 2] } else { settings[period + 1] };
+        if triggers_before(settings[period] - 1) + 1 > limit {
+            return Err(rule);
+        }
+    }
+    Ok(())
+}
 
 impl Board {
     /// "An armed cycle at the holder opens at at_wte (code 13) and is open in that crossing; open, it sends 2 at at_te, asks one
@@ -48,27 +66,13 @@ impl Board {
         self.throttle(n)
     }
 
-    /// "Refused in WARN if warn_blocks is 1; if any of the r1_gap crossings before had a trigger; or if for rule 2, 3 or 4 the
-    /// triggers of the period−1 crossings before, plus this one, exceed the limit." "READY uses normal limits, WARN low ones."
+    /// "READY uses normal limits, WARN low ones."
     fn throttle(&self, n: usize) -> Result<(), Lost> {
-        let (settings, warn) = (&self.settings, self.controllers[n].state == 8);
-        if warn && settings[WARN_BLOCKS] == 1 {
-            return Err(Lost::WarnBlocks);
-        }
-        if self.triggers_before(settings[R1_GAP]) > 0 {
-            return Err(Lost::Rule1);
-        }
-        for (rule, period) in [(Lost::Rule2, R2_PERIOD), (Lost::Rule3, R3_PERIOD), (Lost::Rule4, R4_PERIOD)] {
-            let limit = if warn { settings[period + 2] } else { settings[period + 1] };
-            if self.triggers_before(settings[period] - 1) + 1 > limit {
-                return Err(rule);
-            }
-        }
-        Ok(())
+        (self.throttle)(&self.settings, self.controllers[n].state == 8, &|crossings| self.triggers_before(crossings))
     }
 
     /// The triggers of so many crossings before this one. "All controllers' triggers count, of both kinds."
-    fn triggers_before(&self, crossings: usize) -> usize {
+    pub fn triggers_before(&self, crossings: usize) -> usize {
         self.triggers.iter().rev().take_while(|&trigger| trigger + crossings >= self.crossings).count()
     }
 

@@ -1,4 +1,4 @@
--- `desk_settings::main` is safe and ends: the standard text has 1,724 bytes, so it fits the buffer.
+-- `desk_settings::main` is safe and ends: the standard text has 1,710 bytes, so it fits the buffer.
 -- Its length is that of the settings that `standard` ensures.
 use mathlib.Core.Path.{_≡_, sym, ap, _∙_}
 use native.Mathlib.Omega.{arith}
@@ -11,7 +11,7 @@ use Rattle.editions.proofs.Standard.{standard-length}
 use Rattle.desk_settings.proofs.main.Statement.{statement}
 use Rattle.desk_settings.proofs.main.Tie as tie
 
-long : (c : tie.After-text-length) → c .text-length .result ≡ 1724
+long : (c : tie.After-text-length) → c .text-length .result ≡ 1710
 long c =
     c .text-length .ensures
     ∙ ap (λ (s : Settings). length (textOf s)) (c .before .before .before .before .standard .ensures)

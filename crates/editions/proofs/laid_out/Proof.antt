@@ -21,18 +21,18 @@ abbrev valueOf : ℕ → List ℕ → ℕ → ℕ
 valueOf e numbers n = getD (take (countOf e) numbers) (sourceOf e n) 0
 
 module _ (e : ℕ) (numbers : List ℕ) (some : 0 < e) (most : e ≤ newest) where
-  given-by : (n : ℕ) → n < 148 → (p : ℕ) → p ≡ sourceOf e n → getD numbers p 0 ≡ valueOf e numbers n
+  given-by : (n : ℕ) → n < 147 → (p : ℕ) → p ≡ sourceOf e n → getD numbers p 0 ≡ valueOf e numbers n
   given-by n h p is = rw is (sym (getD-take (countOf e) numbers (sourceOf e n) 0 (source-inside e (known e some most) n h)))
 
-  settled : (values : List ℕ) → values ≡ tabulate (valueOf e numbers) 0 148 → record { values = values } ≡ laidOut e (take (countOf e) numbers)
+  settled : (values : List ℕ) → values ≡ tabulate (valueOf e numbers) 0 147 → record { values = values } ≡ laidOut e (take (countOf e) numbers)
   settled values is = ap (λ (vs : List ℕ). record { values = vs }) (is ∙ sym (known e some most .laid (take (countOf e) numbers)))
 
 abbrev Inv-loop : tie.InvT-loop
 Inv-loop e numbers values₀ n₀ values n =
-    (n ≤ 148) × (length values₀ ≡ 148) × (values ≡ over n (tabulate (valueOf e numbers) 0 148) values₀)
+    (n ≤ 147) × (length values₀ ≡ 147) × (values ≡ over n (tabulate (valueOf e numbers) 0 147) values₀)
 
 abbrev μ-loop : tie.MeasureT-loop
-μ-loop e numbers values₀ n₀ values n = 148 - n
+μ-loop e numbers values₀ n₀ values n = 147 - n
 
 loop-holds : tie.Need-loop-holds Inv-loop μ-loop
 unfolding over
@@ -73,14 +73,14 @@ loop-again c =
     let l = t .before in
     let b = l .before in
     let from = given-by (b .args .e) (b .args .t2) (b .pre .0) (b .pre .1) (l .loop .n) (t .loop-test .taken) _ (c .source .ensures) in
-    (omega arith, l .loop .inv .1, fill-turn _ 148 _ _ _ _ (t .loop-test .taken) (omega arith) (l .loop .inv .2) from)
+    (omega arith, l .loop .inv .1, fill-turn _ 147 _ _ _ _ (t .loop-test .taken) (omega arith) (l .loop .inv .2) from)
 
 returns : tie.Need-returns Inv-loop μ-loop
 returns c =
     let l = c .before in
     let b = l .before in
-    let e : l .loop .n ≡ 148 = omega arith in
-    settled (b .args .e) (b .args .t2) (b .pre .0) (b .pre .1) _ (fill-done _ 148 _ _ (l .loop .inv .1) (rw e at (l .loop .inv .2)))
+    let e : l .loop .n ≡ 147 = omega arith in
+    settled (b .args .e) (b .args .t2) (b .pre .0) (b .pre .1) _ (fill-done _ 147 _ _ (l .loop .inv .1) (rw e at (l .loop .inv .2)))
 
 pub laid-out-spec : {M : Type 1} → statement M
 laid-out-spec =

@@ -12,23 +12,23 @@ use Rattle.keys.specs.Settings.{newest}
 use Rattle.editions.proofs.numbers_of.Statement.{statement}
 use Rattle.editions.proofs.numbers_of.Tie as tie
 
-module _ (v old : List ℕ) (n : ℕ) (long : length v ≡ 148) (room : length old ≡ 149) (more : n < 148) where
+module _ (v old : List ℕ) (n : ℕ) (long : length v ≡ 147) (room : length old ≡ 148) (more : n < 147) where
   next : (numbers : List ℕ) (x : ℕ) → numbers ≡ over (n + 1) (newest ∷ v) old → x ≡ getD v n 0 → set numbers (n + 1) x ≡ over (n + 1 + 1) (newest ∷ v) old
   next numbers x is e =
       let here : x ≡ getD (newest ∷ v) (n + 1) 0 = rw add-one e in
       rw (is, here) (over-set (n + 1) (newest ∷ v) old 0 (omega arith) (omega arith))
 
-all-there : (v old : List ℕ) → length v ≡ 148 → length old ≡ 149 → (numbers : List ℕ) → numbers ≡ over 149 (newest ∷ v) old → numbers ≡ newest ∷ v
+all-there : (v old : List ℕ) → length v ≡ 147 → length old ≡ 148 → (numbers : List ℕ) → numbers ≡ over 148 (newest ∷ v) old → numbers ≡ newest ∷ v
 all-there v old long room numbers is =
-    let none : length old ≤ 149 = omega arith in
-    is ∙ over-all 149 (newest ∷ v) old (omega arith) ∙ rw (drop-of-length-le old none) (append-nil (newest ∷ v))
+    let none : length old ≤ 148 = omega arith in
+    is ∙ over-all 148 (newest ∷ v) old (omega arith) ∙ rw (drop-of-length-le old none) (append-nil (newest ∷ v))
 
 abbrev Inv-loop : tie.InvT-loop
 Inv-loop v numbers₀ n₀ numbers n =
-    (n ≤ 148) × (length v ≡ 148) × (length numbers₀ ≡ 149) × (numbers ≡ over (n + 1) (newest ∷ v) numbers₀)
+    (n ≤ 147) × (length v ≡ 147) × (length numbers₀ ≡ 148) × (numbers ≡ over (n + 1) (newest ∷ v) numbers₀)
 
 abbrev μ-loop : tie.MeasureT-loop
-μ-loop v numbers₀ n₀ numbers n = 148 - n
+μ-loop v numbers₀ n₀ numbers n = 147 - n
 
 loop-holds : tie.Need-loop-holds Inv-loop μ-loop
 unfolding over
@@ -69,7 +69,7 @@ returns : tie.Need-returns Inv-loop μ-loop
 returns c =
     let l = c .before in
     let i = l .loop .inv in
-    let e : l .loop .n + 1 ≡ 149 = omega arith in
+    let e : l .loop .n + 1 ≡ 148 = omega arith in
     all-there _ _ (i .1) (i .2) _ (rw e at (i .3))
 
 pub numbers-of-spec : {M : Type 1} → statement M

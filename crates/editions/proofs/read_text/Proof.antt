@@ -81,9 +81,16 @@ returns-3 c =
     ∙ related-is _ _ (x .before .edition-of .ensures) (x .if1 .left) _ _ (g .read-lines .ensures .numbers (sym (d .is-done .ensures) ∙ not-false _ (y .if2 .left))) (l .laid-out .ensures)
     _ (t .told .ensures ∙ rw (r .first-relation .ensures)) (sym (i .is-done2 .ensures) ∙ not-true _ (c .before .if3 .taken))
 
+stops-requires : tie.Need-stops-requires
+stops-requires c κs = search needs
+
+settled-requires : tie.Need-settled-requires
+settled-requires c κs = search needs
+
 returns-4 : tie.Need-returns-4
 returns-4 c =
-    let i = c .before in
+    let f = c .before .before in
+    let i = f .before in
     let t = i .before in
     let r = t .before in
     let l = r .before in
@@ -92,7 +99,7 @@ returns-4 c =
     let g = d .before in
     let x = g .before in
     done-is _ _ (x .before .edition-of .ensures) (x .if1 .left) _ _ (g .read-lines .ensures .numbers (sym (d .is-done .ensures) ∙ not-false _ (y .if2 .left))) (l .laid-out .ensures)
-    _ (t .told .ensures ∙ rw (r .first-relation .ensures)) (sym (i .is-done2 .ensures) ∙ not-false _ (c .if3 .left))
+    _ (t .told .ensures ∙ rw (r .first-relation .ensures)) _ (c .before .stops .ensures) _ (c .settled .ensures) (sym (i .is-done2 .ensures) ∙ not-false _ (f .if3 .left))
 
 pub read-text-spec : {M : Type 1} → statement M
 read-text-spec =
@@ -111,4 +118,6 @@ read-text-spec =
     is-done-requires-2
     refusal-requires-3
     returns-3
+    stops-requires
+    settled-requires
     returns-4)

@@ -24,7 +24,7 @@ returns : tie.Need-returns
 returns c =
     let n = c .before .before in
     let s = n .before .args .s in
-    let long : length (s .values) ≡ 148 = search needs in
+    let long : length (s .values) ≡ 147 = search needs in
     c .lines-length .ensures .0 ∙ ap (λ (ns : List ℕ). length (linesText keys ns)) (n .numbers-of .ensures) ∙ ap length (text-is s long)
 
 pub text-length-spec : {M : Type 1} → statement M

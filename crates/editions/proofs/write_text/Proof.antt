@@ -16,14 +16,14 @@ use Rattle.editions.proofs.Writing.{text-is, refused-is, room-is, done-
 use Rattle.editions.proofs.write_text.Statement.{statement}
 use Rattle.editions.proofs.write_text.Tie as tie
 
-module _ (s : Settings) (long : length (s .values) ≡ 148) (ns : List ℕ) (is : ns ≡ numbersOf s) where
+module _ (s : Settings) (long : length (s .values) ≡ 147) (ns : List ℕ) (is : ns ≡ numbersOf s) where
   lines-are : linesText keys ns ≡ textOf s
   lines-are = ap (linesText keys) is ∙ text-is s long
 
   length-is : (need : ℕ) → need ≡ length (linesText keys ns) → need ≡ length (textOf s)
   length-is need e = e ∙ ap length lines-are
 
-long : (c : tie.Start) → length (c .args .s .values) ≡ 148
+long : (c : tie.Start) → length (c .args .s .values) ≡ 147
 long c = search needs
 
 check-requires : tie.Need-check-requires

@@ -5,10 +5,14 @@ use lib.Dec.{eqb, ltb}
 use Rattle.laws.specs.Base.{if}
 
 abbrev pub countOf : ℕ → ℕ
-countOf e = if (eqb e 1) 71 149
+countOf e = if (eqb e 1) 71 (if (eqb e 2) 149 148)
 
 abbrev pub placeOf : (e n : ℕ) → ℕ
-placeOf e n = if (eqb e 1) (if (ltb n 28) (n + 1) (if (ltb n 39) (n + 121) (n + 78))) n
+placeOf e n =
+    if (eqb e 1) (if (ltb n 13) (n + 1) (if (ltb n 14) 148 (if (ltb n 28) n (if (ltb n 39) (n + 121) (n + 77)))))
+    (if (eqb e 2) (if (ltb n 14) n (if (ltb n 15) 148 (n - 1))) n)
 
 abbrev pub sourceOf : (e n : ℕ) → ℕ
-sourceOf e n = if (eqb e 1) (if (ltb n 28) n (if (ltb n 116) (28 + (n - 28) % 11) (n - 77))) (n + 1)
+sourceOf e n =
+    if (eqb e 1) (if (ltb n 13) n (if (ltb n 27) (n + 1) (if (ltb n 115) (28 + (n - 27) % 11) (n - 76))))
+    (if (eqb e 2) (if (ltb n 13) (n + 1) (n + 2)) (n + 1))

@@ -5,11 +5,11 @@ use lib.ListN.{getD}
 use Rattle.text.specs.declared.Range.{Range}
 use Rattle.text.specs.Bytes.{bytes}
 use Rattle.text.specs.Lines.{Entry, rangesOf}
-use Rattle.keys.specs.Settings.{schedule, linesOf, opening, valueLines}
+use Rattle.keys.specs.Settings.{retired, schedule, linesOf, opening, valueLines}
 
 unfoldable pub lines : List Entry
-unfolding bytes schedule opening valueLines
-lines = opening ∷ (valueLines ++ linesOf (schedule (bytes "at_")))
+unfolding bytes retired schedule opening valueLines
+lines = opening ∷ (valueLines ++ linesOf (retired ++ schedule (bytes "at_")))
 
 abbrev pub lineCount : ℕ
 lineCount = 160

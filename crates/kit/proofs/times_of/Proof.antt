@@ -11,7 +11,7 @@ use Rattle.kit.proofs.times_of.Statement.{statement}
 use Rattle.kit.proofs.times_of.Tie as tie
 
 abbrev Inv-loop : tie.InvT-loop
-Inv-loop v times₀ n₀ times n = (n ≤ 88) × (length v ≡ 148) × (length times₀ ≡ 88) × (times ≡ over n (tabulate (λ n. getD v (28 + n) 0) 0 88) times₀)
+Inv-loop v times₀ n₀ times n = (n ≤ 88) × (length v ≡ 147) × (length times₀ ≡ 88) × (times ≡ over n (tabulate (λ n. getD v (27 + n) 0) 0 88) times₀)
 
 abbrev μ-loop : tie.MeasureT-loop
 μ-loop v times₀ n₀ times n = 88 - n

@@ -6,7 +6,7 @@ use lib.Dec.{eqb}
 use lib.ListN.{getD, set, replicate}
 use Rattle.laws.specs.Base.{tabulate}
 use Rattle.settings.specs.declared.Settings.{Settings}
-use Rattle.settings.specs.Names.{after, orbitOf, gapOf, rulesOf, warnBlocksOf, waitsOf, scheduleOf}
+use Rattle.settings.specs.Names.{after, orbitOf, gapOf, rulesOf, waitsOf, scheduleOf}
 use Rattle.status.specs.support.Merger.{mergerOf}
 use Rattle.lanes.specs.support.Lanes.{tableOf}
 use Rattle.kit.specs.declared.Kit.{Kit}
@@ -14,7 +14,7 @@ use Rattle.kit.specs.Kit.{slotsOf}
 
 -- the numbers of all eight schedules, one after the other
 abbrev pub timesFor : Settings → List ℕ
-timesFor s = tabulate (λ n. after s (28 + n)) 0 88
+timesFor s = tabulate (λ n. after s (27 + n)) 0 88
 
 -- a place for each number of the longest orbit
 abbrev pub placeOf : ℕ → ℕ
@@ -39,7 +39,6 @@ kitOf s = record {
   gap = gapOf s;
   times = timesFor s;
   rules = rulesOf s;
-  blocks = warnBlocksOf s;
   lanes = tableOf (mergerOf s);
   slots = slotsOf s;
 }

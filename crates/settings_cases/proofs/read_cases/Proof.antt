@@ -8,10 +8,10 @@ use Rattle.settings_cases.proofs.read_cases.Statement.{statement}
 use Rattle.settings_cases.proofs.read_cases.Tie as tie
 
 abbrev Inv-loop : tie.InvT-loop
-Inv-loop input from first newest at₀ at = at ≤ length input
+Inv-loop input from first second newest at₀ at = at ≤ length input
 
 abbrev μ-loop : tie.MeasureT-loop
-μ-loop input from first newest at₀ at = length input - at
+μ-loop input from first second newest at₀ at = length input - at
 
 loop-holds : tie.Need-loop-holds Inv-loop μ-loop
 loop-holds c = search needs

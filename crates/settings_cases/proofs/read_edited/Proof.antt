@@ -21,11 +21,23 @@ read-text-requires c κs = search needs
 say-case-requires : tie.Need-say-case-requires
 say-case-requires c κs = search needs
 
+is-done-requires : tie.Need-is-done-requires
+is-done-requires c κs = search needs
+
+say-back-requires : tie.Need-say-back-requires
+say-back-requires c κs = search needs
+
 same-length : tie.Need-same-length
 same-length c = search needs
 
 returns : tie.Need-returns
 returns c = search needs
+
+same-length-2 : tie.Need-same-length-2
+same-length-2 c = search needs
+
+returns-2 : tie.Need-returns-2
+returns-2 c = search needs
 
 pub read-edited-spec : {M : Type 1} → statement M
 read-edited-spec =
@@ -36,5 +48,9 @@ read-edited-spec =
     slice-aggregate-read-text
     read-text-requires
     say-case-requires
+    is-done-requires
+    say-back-requires
     same-length
-    returns)
+    returns
+    same-length-2
+    returns-2)

@@ -19,6 +19,27 @@ slice-aggregate-decoded-2 c = search needs
 decoded-requires : tie.Need-decoded-requires
 decoded-requires c κs = search needs
 
+after-requires : tie.Need-after-requires
+after-requires c κs = search needs
+
+line-end-requires-2 : tie.Need-line-end-requires-2
+line-end-requires-2 c κs = search needs
+
+sub-decoded : tie.Need-sub-decoded
+sub-decoded c = search needs
+
+part-decoded-start : tie.Need-part-decoded-start
+part-decoded-start c = search needs
+
+part-decoded-end : tie.Need-part-decoded-end
+part-decoded-end c = search needs
+
+slice-aggregate-decoded-3 : tie.Need-slice-aggregate-decoded-3
+slice-aggregate-decoded-3 c = search needs
+
+decoded-requires-2 : tie.Need-decoded-requires-2
+decoded-requires-2 c κs = search needs
+
 standard-requires : tie.Need-standard-requires
 standard-requires c κs = search needs
 
@@ -34,8 +55,8 @@ text-length-requires c κs = search needs
 returns : tie.Need-returns
 returns c = search needs
 
-after-requires : tie.Need-after-requires
-after-requires c κs = search needs
+after-requires-2 : tie.Need-after-requires-2
+after-requires-2 c κs = search needs
 
 array-share-prefix-first : tie.Need-array-share-prefix-first
 array-share-prefix-first c = search needs
@@ -43,11 +64,17 @@ array-share-prefix-first c = search needs
 slice-aggregate-read-cases : tie.Need-slice-aggregate-read-cases
 slice-aggregate-read-cases c = sym (length-take-le _ _ (omega arith))
 
-array-share-prefix-newest : tie.Need-array-share-prefix-newest
-array-share-prefix-newest c = search needs
+array-share-prefix-second : tie.Need-array-share-prefix-second
+array-share-prefix-second c = search needs
 
 slice-aggregate-read-cases-2 : tie.Need-slice-aggregate-read-cases-2
 slice-aggregate-read-cases-2 c = sym (length-take-le _ _ (omega arith))
+
+array-share-prefix-newest : tie.Need-array-share-prefix-newest
+array-share-prefix-newest c = search needs
+
+slice-aggregate-read-cases-3 : tie.Need-slice-aggregate-read-cases-3
+slice-aggregate-read-cases-3 c = sym (length-take-le _ _ (omega arith))
 
 read-cases-requires : tie.Need-read-cases-requires
 read-cases-requires c κs = search needs
@@ -63,15 +90,24 @@ reads-spec =
     slice-aggregate-decoded
     slice-aggregate-decoded-2
     decoded-requires
+    after-requires
+    line-end-requires-2
+    sub-decoded
+    part-decoded-start
+    part-decoded-end
+    slice-aggregate-decoded-3
+    decoded-requires-2
     standard-requires
     slice-aggregate-write-text
     write-text-requires
     text-length-requires
     returns
-    after-requires
+    after-requires-2
     array-share-prefix-first
     slice-aggregate-read-cases
-    array-share-prefix-newest
+    array-share-prefix-second
     slice-aggregate-read-cases-2
+    array-share-prefix-newest
+    slice-aggregate-read-cases-3
     read-cases-requires
     returns-2)

@@ -42,12 +42,12 @@ sightOf busy table slots clock turn calm carried believed rec =
     }
 
 -- what all eight see, p being the holder: where it asks, the rules by the limits of the state that it moves to
-unfoldable pub sceneFor : (times : List ℕ) (waits : Waits) (rules : Rules) (blocks : Bool) (p : Ptc) (sight : Sight) (marks : List ℕ) (clock : Clock) → Scene
-sceneFor times waits rules blocks p sight marks clock =
+unfoldable pub sceneFor : (times : List ℕ) (waits : Waits) (rules : Rules) (p : Ptc) (sight : Sight) (marks : List ℕ) (clock : Clock) → Scene
+sceneFor times waits rules p sight marks clock =
     let number = numberOf clock (sight .marker) in
     let holder = sight .turn .holder in
     let place = holder % 8 in
     let moved = movedOf (scheduleFrom times holder) waits holder number (getD (sight .classes) place 0) (p .state) (p .wait) in
     let asks = askedIn (sight .requests) place || not (eqb (p .cycle) 0) in
-    let now = asks && free rules blocks marks (clock .crossings) (eqb (moved .state) WARN) in
+    let now = asks && free rules marks (clock .crossings) (eqb (moved .state) WARN) in
     record { number = number; holder = holder; norm = now; low = now }

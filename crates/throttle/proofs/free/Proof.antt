@@ -1,7 +1,6 @@
--- `throttle::free` meets its contract: the first rule that refuses decides.
+-- `throttle::free` meets its contract: a limit of 0 refuses, and else the first rule that refuses decides.
 -- Each way out is one law, with what the calls before it told; each count is the rule's own.
 use mathlib.Core.Path.{_≡_, refl, sym, _∙_}
-use mathlib.Core.Bool.{false, _&&_}
 use mathlib.Core.List.{List}
 use Prim.Native.Nat.{ℕ}
 use native.Mathlib.Omega.{arith}
@@ -9,7 +8,7 @@ use borrow.Author.Tests.{not-true, not-false}
 use borrow.Author.Needs.{needs}
 use Rattle.throttle.specs.Marks.{among}
 use Rattle.throttle.specs.Rules.{spacingRule, allows}
-use Rattle.throttle.proofs.Refusals.{allows-is, blocked, first-refuses, second-refuses, third-refuses, fourth-decides}
+use Rattle.throttle.proofs.Refusals.{allows-is, closed, first-refuses, second-refuses, third-refuses, fourth-decides}
 use Rattle.throttle.proofs.free.Statement.{statement}
 use Rattle.throttle.proofs.free.Tie as tie
 
@@ -17,9 +16,6 @@ use Rattle.throttle.proofs.free.Tie as tie
 
 abbrev entry : tie.After-on → tie.Start
 entry c = c .before .before .before .before
-
-clear : (c : tie.Else1) → let a = c .before .before .args in (a .warn && a .blocks) ≡ false
-clear c = sym (c .before .both .ensures) ∙ c .if1 .left
 
 told-first : (c : tie.After-is-within) → let a = entry (c .before) .args in c .is-within .result ≡ allows (a .marks .now) (a .n) (a .warn) (spacingRule (a .rules))
 told-first c = allows-is _ _ _ _ _ _ (c .before .on .ensures .1) (c .is-within .ensures)
@@ -45,14 +41,14 @@ counted-is ws n j k m e f = f ∙ rw e
 
 -- ---- the needs
 
-both-requires : tie.Need-both-requires
-both-requires c κs = search needs
+limit-requires : tie.Need-limit-requires
+limit-requires c κs = search needs
 
 returns : tie.Need-returns
-returns c = blocked _ _ _ _ _ (sym (c .before .both .ensures) ∙ c .if1 .taken)
+returns c = closed _ _ _ _ (sym (c .before .limit .ensures) ∙ c .if1 .taken)
 
-add-t12 : tie.Need-add-t12
-add-t12 c = search needs
+add-t10 : tie.Need-add-t10
+add-t10 c = search needs
 
 on-requires : tie.Need-on-requires
 unfolding among
@@ -64,7 +60,7 @@ is-within-requires c κs = search needs
 returns-2 : tie.Need-returns-2
 returns-2 c =
     let w = c .before in
-    first-refuses _ _ _ _ _ (clear (w .before .before .before)) (sym (told-first w) ∙ not-true _ (c .if2 .taken))
+    first-refuses _ _ _ _ (sym (told-first w) ∙ not-true _ (c .if2 .taken))
 
 on-requires-2 : tie.Need-on-requires-2
 on-requires-2 c κs =
@@ -78,7 +74,7 @@ returns-3 : tie.Need-returns-3
 returns-3 c =
     let w = c .before in
     let f = after-first w in
-    second-refuses _ _ _ _ _ (clear (f .before .before .before)) (sym (told-first f) ∙ not-false _ (w .before .before .if2 .left)) (sym (told-second w) ∙ not-true _ (c .if3 .taken))
+    second-refuses _ _ _ _ (sym (told-first f) ∙ not-false _ (w .before .before .if2 .left)) (sym (told-second w) ∙ not-true _ (c .if3 .taken))
 
 on-requires-3 : tie.Need-on-requires-3
 on-requires-3 c κs =
@@ -93,7 +89,7 @@ returns-4 c =
     let w = c .before in
     let s = after-second w in
     let f = after-first s in
-    third-refuses _ _ _ _ _ (clear (f .before .before .before)) (sym (told-first f) ∙ not-false _ (s .before .before .if2 .left))
+    third-refuses _ _ _ _ (sym (told-first f) ∙ not-false _ (s .before .before .if2 .left))
     (sym (told-second s) ∙ not-false _ (w .before .before .if3 .left)) (sym (told-third w) ∙ not-true _ (c .if4 .taken))
 
 on-requires-4 : tie.Need-on-requires-4
@@ -111,16 +107,16 @@ returns-5 c =
     let s = after-second w in
     let f = after-first s in
     allows-is _ _ _ _ _ _ (c .before .on4 .ensures .1) (c .is-within4 .ensures)
-    ∙ fourth-decides _ _ _ _ _ (clear (f .before .before .before)) (sym (told-first f) ∙ not-false _ (s .before .before .if2 .left))
+    ∙ fourth-decides _ _ _ _ (sym (told-first f) ∙ not-false _ (s .before .before .if2 .left))
     (sym (told-second s) ∙ not-false _ (w .before .before .if3 .left)) (sym (told-third w) ∙ not-false _ (e .if4 .left))
 
 pub free-spec : {M : Type 1} → statement M
 free-spec =
     tie.close
     (tie.spec
-    both-requires
+    limit-requires
     returns
-    add-t12
+    add-t10
     on-requires
     is-within-requires
     returns-2

@@ -6,10 +6,10 @@ use Rattle.board_cases.proofs.boards.are_same_settings.Statement.{state
 use Rattle.board_cases.proofs.boards.are_same_settings.Tie as tie
 
 abbrev Inv-loop : tie.InvT-loop
-Inv-loop a b same₀ k₀ same k = k ≤ 148
+Inv-loop a b same₀ k₀ same k = k ≤ 147
 
 abbrev μ-loop : tie.MeasureT-loop
-μ-loop a b same₀ k₀ same k = 148 - k
+μ-loop a b same₀ k₀ same k = 147 - k
 
 loop-holds : tie.Need-loop-holds Inv-loop μ-loop
 loop-holds c = search needs

@@ -1,44 +1,30 @@
--- `editions::tables::place` meets its contract: each way is the tests that led there.
--- Rewritten with them.
+-- `editions::tables::place` meets its contract: each edition has its own places.
+-- What the call tells, and the tests that led there.
+use mathlib.Core.Path.{_∙_}
 use native.Mathlib.Omega.{arith}
-use borrow.Author.Tests.{eq-eqb, ne-eqb, lt-ltb, le-ltb}
+use borrow.Author.Tests.{eq-eqb, ne-eqb}
 use borrow.Author.Needs.{needs}
 use Rattle.editions.proofs.tables.place.Statement.{statement}
 use Rattle.editions.proofs.tables.place.Tie as tie
 
-add-result : tie.Need-add-result
-add-result c = search needs
+first-place-requires : tie.Need-first-place-requires
+first-place-requires c κs = rw (eq-eqb _ _ (c .if1 .taken)) at (c .before .pre)
 
 returns : tie.Need-returns
-returns c = (rw (eq-eqb _ _ (c .before .if1 .taken), lt-ltb _ _ (c .if2 .taken)), omega arith)
+returns c = (c .first-place .ensures .0 ∙ rw (eq-eqb _ _ (c .before .if1 .taken)), c .first-place .ensures .1)
 
-add-result-2 : tie.Need-add-result-2
-add-result-2 c = search needs
+second-place-requires : tie.Need-second-place-requires
+second-place-requires c κs = rw (ne-eqb _ _ (c .before .if1 .left), eq-eqb _ _ (c .if2 .taken)) at (c .before .before .pre)
 
 returns-2 : tie.Need-returns-2
-returns-2 c = (rw (eq-eqb _ _ (c .before .before .if1 .taken), le-ltb _ _ (c .before .if2 .left), lt-ltb _ _ (c .if3 .taken)), omega arith)
-
-add-result-3 : tie.Need-add-result-3
-add-result-3 c = let few = rw (eq-eqb _ _ (c .before .before .if1 .taken)) at (c .before .before .before .pre) in omega arith
+returns-2 c =
+    let x = c .before in
+    (c .second-place .ensures .0 ∙ rw (ne-eqb _ _ (x .before .if1 .left), eq-eqb _ _ (x .if2 .taken)), c .second-place .ensures .1)
 
 returns-3 : tie.Need-returns-3
 returns-3 c =
-    let few = rw (eq-eqb _ _ (c .before .before .if1 .taken)) at (c .before .before .before .pre) in
-    (rw (eq-eqb _ _ (c .before .before .if1 .taken), le-ltb _ _ (c .before .if2 .left), le-ltb _ _ (c .if3 .left)), omega arith)
-
-returns-4 : tie.Need-returns-4
-returns-4 c =
-    let few = rw (ne-eqb _ _ (c .if1 .left)) at (c .before .pre) in
-    (rw (ne-eqb _ _ (c .if1 .left)), omega arith)
+    let few = rw (ne-eqb _ _ (c .before .if1 .left), ne-eqb _ _ (c .if2 .left)) at (c .before .before .pre) in
+    (rw (ne-eqb _ _ (c .before .if1 .left), ne-eqb _ _ (c .if2 .left)), omega arith)
 
 pub place-spec : {M : Type 1} → statement M
-place-spec =
-    tie.close
-    (tie.spec
-    add-result
-    returns
-    add-result-2
-    returns-2
-    add-result-3
-    returns-3
-    returns-4)
+place-spec = tie.close (tie.spec first-place-requires returns second-place-requires returns-2 returns-3)

@@ -1,4 +1,4 @@
--- `Kit::of` meets its contract: its eight parts, each as its calls ensure it.
+-- `Kit::of` meets its contract: its seven parts, each as its calls ensure it.
 -- A literal of what the calls return.
 use borrow.Author.Needs.{needs}
 use Rattle.kit.specs.support.Laid.{kitOf}
@@ -29,20 +29,17 @@ slots-of-requires c κs = search needs
 orbit-requires : tie.Need-orbit-requires
 orbit-requires c κs = search needs
 
-warn-blocks-requires : tie.Need-warn-blocks-requires
-warn-blocks-requires c κs = search needs
-
 returns : tie.Need-returns
 unfolding kitOf
 returns c =
-    let slots = c .before .before in
+    let slots = c .before in
     let table = slots .before in
     let rules = table .before .before in
     let times = rules .before in
     let gap = times .before in
-    rw (c .warn-blocks .ensures, c .before .orbit .ensures, slots .slots-of .ensures, table .table .ensures, table .before .of .ensures, rules .rules .ensures, times .times-of .ensures, gap .gap .ensures, gap .before .waits .ensures)
+    rw (c .orbit .ensures, slots .slots-of .ensures, table .table .ensures, table .before .of .ensures, rules .rules .ensures, times .times-of .ensures, gap .gap .ensures, gap .before .waits .ensures)
 
 pub of-spec : {M : Type 1} → statement M
 of-spec =
     tie.close
-    (tie.spec waits-requires gap-requires times-of-requires rules-requires of-requires table-requires slots-of-requires orbit-requires warn-blocks-requires returns)
+    (tie.spec waits-requires gap-requires times-of-requires rules-requires of-requires table-requires slots-of-requires orbit-requires returns)

@@ -19,7 +19,7 @@ use Rattle.settings.proofs.Settings.first_doubled.Statement.{statement}
 use Rattle.settings.proofs.Settings.first_doubled.Tie as tie
 
 abbrev apart : List ℕ → ℕ → Bool
-apart v k = distinct (take 11 (drop (28 + 11 * k) v))
+apart v k = distinct (take 11 (drop (27 + 11 * k) v))
 
 none-stamped : Lower 1 (replicate places 0)
 none-stamped x =
@@ -29,7 +29,7 @@ none-stamped x =
     (lt-or-ge x places)
 
 abbrev Inv-loop : tie.InvT-loop
-Inv-loop v seen₀ k₀ seen k = (k ≤ 8) × (length v ≡ 148) × (length seen ≡ places) × Lower (k + 1) seen × (firstNot (apart v) 8 0 ≡ firstNot (apart v) (8 - k) k)
+Inv-loop v seen₀ k₀ seen k = (k ≤ 8) × (length v ≡ 147) × (length seen ≡ places) × Lower (k + 1) seen × (firstNot (apart v) 8 0 ≡ firstNot (apart v) (8 - k) k)
 
 abbrev μ-loop : tie.MeasureT-loop
 μ-loop v seen₀ k₀ seen k = 8 - k

@@ -16,10 +16,10 @@ use Rattle.settings.proofs.Settings.first_late.Statement.{statement}
 use Rattle.settings.proofs.Settings.first_late.Tie as tie
 
 abbrev late : List ℕ → ℕ → ℕ → Bool
-late v orbit k = below orbit (take 11 (drop (28 + 11 * k) v))
+late v orbit k = below orbit (take 11 (drop (27 + 11 * k) v))
 
 abbrev Inv-loop : tie.InvT-loop
-Inv-loop v orbit k₀ k = (k ≤ 8) × (length v ≡ 148) × (firstNot (late v orbit) 8 0 ≡ firstNot (late v orbit) (8 - k) k)
+Inv-loop v orbit k₀ k = (k ≤ 8) × (length v ≡ 147) × (firstNot (late v orbit) 8 0 ≡ firstNot (late v orbit) (8 - k) k)
 
 abbrev μ-loop : tie.MeasureT-loop
 μ-loop v orbit k₀ k = 8 - k

@@ -14,10 +14,10 @@ use Rattle.settings.proofs.Settings.first_out.Statement.{statement}
 use Rattle.settings.proofs.Settings.first_out.Tie as tie
 
 abbrev Inv-loop : tie.InvT-loop
-Inv-loop v lows highs n₀ n = (n ≤ 148) × (length v ≡ 148) × (firstOut (rangesOf valueLines) 2 v ≡ firstOut (drop n (rangesOf valueLines)) (n + 2) (drop n v))
+Inv-loop v lows highs n₀ n = (n ≤ 147) × (length v ≡ 147) × (firstOut (rangesOf valueLines) 2 v ≡ firstOut (drop n (rangesOf valueLines)) (n + 2) (drop n v))
 
 abbrev μ-loop : tie.MeasureT-loop
-μ-loop v lows highs n₀ n = 148 - n
+μ-loop v lows highs n₀ n = 147 - n
 
 low-values-requires : tie.Need-low-values-requires Inv-loop μ-loop
 low-values-requires c κs = search needs

@@ -22,7 +22,7 @@ use Rattle.still.specs.support.Sight.{sceneFor}
 use Rattle.still.proofs.Sight.scene.Statement.{statement}
 use Rattle.still.proofs.Sight.scene.Tie as tie
 
-module _ (times : List ℕ) (waits : Waits) (rules : Rules) (blocks : Bool) (p : Ptc) (sight : Sight) (marks : List ℕ) (clock : Clock) (number : ℕ) where
+module _ (times : List ℕ) (waits : Waits) (rules : Rules) (p : Ptc) (sight : Sight) (marks : List ℕ) (clock : Clock) (number : ℕ) where
   abbrev asks : Bool
   asks = askedIn (sight .requests) (sight .turn .holder % 8) || not (eqb (p .cycle) 0)
 
@@ -31,11 +31,11 @@ module _ (times : List ℕ) (waits : Waits) (rules : Rules) (blocks : Bool) (p :
 
   asked-is : (warn now : Bool) → number ≡ numberOf clock (sight .marker) → asks ≡ true
       → warn ≡ eqb (movedOf (scheduleFrom times (sight .turn .holder)) waits (sight .turn .holder) number (getD (sight .classes) (sight .turn .holder % 8) 0) (p .state) (p .wait) .state) 8
-      → now ≡ free rules blocks marks (clock .crossings) warn → seeing now ≡ sceneFor times waits rules blocks p sight marks clock
+      → now ≡ free rules marks (clock .crossings) warn → seeing now ≡ sceneFor times waits rules p sight marks clock
   unfolding sceneFor
   asked-is warn now n a w f = rw (f, w, n, a)
 
-  idle-is : number ≡ numberOf clock (sight .marker) → asks ≡ false → seeing false ≡ sceneFor times waits rules blocks p sight marks clock
+  idle-is : number ≡ numberOf clock (sight .marker) → asks ≡ false → seeing false ≡ sceneFor times waits rules p sight marks clock
   unfolding sceneFor
   idle-is n a = rw (n, a)
 
@@ -58,10 +58,10 @@ free-requires : tie.Need-free-requires
 free-requires c κs = search needs
 
 returns : tie.Need-returns
-returns c = asked-is _ _ _ _ _ _ _ _ _ _ _ (c .before .before .before .before .before .number .ensures) (sym (c .before .before .before .before .asks .ensures) ∙ c .before .before .before .if1 .taken) (c .before .is-warned .ensures) (c .free .ensures)
+returns c = asked-is _ _ _ _ _ _ _ _ _ _ (c .before .before .before .before .before .number .ensures) (sym (c .before .before .before .before .asks .ensures) ∙ c .before .before .before .if1 .taken) (c .before .is-warned .ensures) (c .free .ensures)
 
 returns-2 : tie.Need-returns-2
-returns-2 c = idle-is _ _ _ _ _ _ _ _ _ (c .before .before .number .ensures) (sym (c .before .asks .ensures) ∙ c .if1 .left)
+returns-2 c = idle-is _ _ _ _ _ _ _ _ (c .before .before .number .ensures) (sym (c .before .asks .ensures) ∙ c .if1 .left)
 
 pub scene-spec : {M : Type 1} → statement M
 scene-spec =

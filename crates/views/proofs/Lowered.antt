@@ -1,0 +1,89 @@
+-- Settings with their low limits at 0 are seen as the desk that refused every trigger under warning saw them with those that they had.
+-- Every other value is the same, so every part of the view is; under warning rule 2 refuses where no trigger is within its limit.
+use mathlib.Core.Path.{_≡_, refl, sym}
+use mathlib.Core.Bool.{Bool, true, false, not, _&&_}
+use mathlib.Core.List.{List}
+use Prim.Native.Nat.{ℕ, _+_}
+use native.Mathlib.Omega.{arith}
+use lib.Dec.{eqb, lit≤}
+use Rattle.laws.specs.Base.{if, allB, tabulate}
+use Rattle.settings.specs.declared.Settings.{Settings}
+use Rattle.settings.specs.Names.{after, rulesOf, waitsOf, timesAt}
+use Rattle.settings.specs.Lows.{lowsCleared}
+use Rattle.settings.proofs.Lows.{low-at, low-later}
+use Rattle.status.specs.Merge.{classesBy}
+use Rattle.throttle.specs.Rules.{allows, free}
+use Rattle.throttle.proofs.Refusals.{closed}
+use Rattle.kit.specs.View.{View, viewOf}
+
+-- a view by which no trigger is free under warning where `blocks` says so
+abbrev pub blocking : Bool → View → View
+blocking blocks v = record {
+  orbit = v .orbit;
+  slots = v .slots;
+  waits = v .waits;
+  plan = v .plan;
+  free = λ ws n warn. not (warn && blocks) && v .free ws n warn;
+  classes = v .classes;
+}
+
+module _ (s : Settings) where
+  abbrev low : Settings
+  low = lowsCleared s
+
+  -- the number j places after controller k's first
+  time : (k j : ℕ) → after low (timesAt k + j) ≡ after s (timesAt k + j)
+  time k j = low-later s (timesAt k + j) (omega arith)
+
+  refuses : (ws : List ℕ) (n : ℕ) (warn : Bool) → free (rulesOf low) ws n warn ≡ not (warn && true) && free (rulesOf s) ws n warn
+  unfolding free allB allows
+  refuses ws n true = sym (closed (rulesOf low) ws n true (low-at s 6))
+  refuses ws n false = rw (low-at s 3, low-at s 4, low-at s 5, low-at s 7, low-at s 8, low-at s 10, low-at s 11)
+
+  waits : waitsOf low ≡ waitsOf s
+  waits = λ i. record {
+    settle = record { resync = low-later s 15 (lit≤ tt) i; hard = low-later s 16 (lit≤ tt) i };
+    recover = record { resync = low-later s 17 (lit≤ tt) i; hard = low-later s 18 (lit≤ tt) i };
+  }
+
+  cleared-view : viewOf low ≡ blocking true (viewOf s)
+  unfolding allB
+  cleared-view = λ i. record {
+    orbit = low-at s 0 i;
+    slots = tabulate (λ k. low-later s (19 + k) (omega arith) i) 0 8;
+    waits = waits i;
+    plan = λ k. record {
+      at = record {
+        bc0 = low-later s (timesAt k) (omega arith) i;
+        te = time k 1 i;
+        resync = time k 2 i;
+        hard = time k 3 i;
+        ec0 = time k 4 i;
+        oc0 = time k 5 i;
+        start = time k 6 i;
+        stop = time k 7 i;
+        gap = time k 8 i;
+        wte = time k 9 i;
+        cal = time k 10 i;
+      };
+      waits = waits i;
+      gap = record { low = low-at s 1 i; high = low-at s 2 i };
+    };
+    free = λ ws n warn. refuses ws n warn i;
+    classes = classesBy (λ p. low-later s (115 + p) (omega arith) i) (record { disc = eqb (low-at s 13 i) 1; bad = eqb (low-at s 14 i) 1 });
+  }
+
+  plain-free : (ws : List ℕ) (n : ℕ) (warn : Bool) → free (rulesOf s) ws n warn ≡ not (warn && false) && free (rulesOf s) ws n warn
+  plain-free ws n true = refl
+  plain-free ws n false = refl
+
+  pub settled-view : (blocks : Bool) → viewOf (if blocks low s) ≡ blocking blocks (viewOf s)
+  settled-view true = cleared-view
+  settled-view false = λ i. record {
+    orbit = viewOf s .orbit;
+    slots = viewOf s .slots;
+    waits = viewOf s .waits;
+    plan = viewOf s .plan;
+    free = λ ws n warn. plain-free ws n warn i;
+    classes = viewOf s .classes;
+  }
