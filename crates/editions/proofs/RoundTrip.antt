@@ -87,6 +87,13 @@ accepted t e =
     go some (all ns (b ∷ u)) is e = absurd (not-done _ (lit< tt) e)
     go some (all ns []) is e = accepted-lines t some ns is e (rw (some, is))
 
+-- the numbers that stand on its lines are these
+pub numbers-are : (t ns : List ℕ) (a : Accepted t) → readLines (tableOf (editionOf t)) [] t ≡ all ns [] → a .numbers ≡ ns
+numbers-are t ns a is = one-list (a .numbers) ns (sym (a .lines) ∙ is)
+  where
+    one-list : (xs ys : List ℕ) → all xs [] ≡ all ys [] → xs ≡ ys
+    one-list xs ys e = cc
+
 -- ---- how a text opens
 
 -- the number on the first line is the first that is read

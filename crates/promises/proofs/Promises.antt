@@ -23,6 +23,7 @@ use Rattle.programs.proofs.Programs.{no-empty-program}
 use Rattle.promises.specs.Promises.{Promises}
 use Rattle.promises.proofs.Refusals.{refusals}
 use Rattle.promises.proofs.WholeLog.{whole-log}
+use Rattle.promises.proofs.Stopped.{stopped}
 
 pub promises : Promises
 promises =
@@ -44,5 +45,6 @@ promises =
       bounce = bounce;
       sample = sample;
       as-before = as-before;
+      stopped = stopped;
       no-empty-program = no-empty-program;
     }

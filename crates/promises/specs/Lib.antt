@@ -1,3 +1,4 @@
 pub mod Refusals
 pub mod WholeLog
+pub mod Stopped
 pub mod Promises

@@ -28,6 +28,7 @@ use Rattle.slots.specs.Rounds.{Rounds}
 use Rattle.programs.specs.Programs.{NoEmptyProgram}
 use Rattle.promises.specs.Refusals.{Refusals}
 use Rattle.promises.specs.WholeLog.{WholeLogs}
+use Rattle.promises.specs.Stopped.{Stopped}
 
 -- demand 2, second sentence, and document 02, P2 and P3: text of the newest edition, what is written, and text of any edition; settings have 147 values
 pub record RoundTrips : Type 0 where
@@ -75,7 +76,8 @@ pub record Promises : Type 0 where
   pub never-twice : NeverTwice
   pub bounce : Bounce
   pub sample : Sample
-  -- document 02, P2: text of the first edition runs as before
+  -- document 02, P2 and P3: text of the older editions runs as before; where it stopped triggers under warning none is sent there
   pub as-before : AsBefore
+  pub stopped : Stopped
   -- and no program without work meets the contracts
   pub no-empty-program : NoEmptyProgram
