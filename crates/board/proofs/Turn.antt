@@ -13,7 +13,7 @@ use borrow.Author.Tests.{eq-eqb, ne-eqb}
 use borrow.Rule.Slice.PartMut.{putMid}
 use Rattle.laws.specs.Base.{mapI, one, allB}
 use Rattle.laws.proofs.Bools.{both}
-use Rattle.laws.proofs.Over.{length-mapI, getD-mapI, getD-tabulate}
+use Rattle.laws.proofs.Over.{length-mapI, getD-mapI}
 use Rattle.laws.proofs.Maps.{map-is}
 use Rattle.status.specs.Codes.{Coded}
 use Rattle.lanes.specs.support.Lanes.{laneClasses}

@@ -3,7 +3,7 @@
 use mathlib.Core.Path.{_≡_, refl, sym, ap, _∙_}
 use mathlib.Core.Bool.{true}
 use mathlib.Core.List.{List, [], _∷_}
-use Prim.Native.Nat.{ℕ, _+_, _<_}
+use Prim.Native.Nat.{ℕ, _<_}
 use native.Mathlib.Nat.{zero-add}
 use native.Mathlib.Numerals.{add-one}
 use native.Mathlib.Omega.{arith}
@@ -14,7 +14,7 @@ use Rattle.laws.specs.Base.{tabulate}
 use Rattle.laws.proofs.Bools.{if-has}
 use Rattle.laws.proofs.Over.{length-tabulate, getD-tabulate}
 use Rattle.text.specs.declared.Range.{Range}
-use Rattle.text.specs.Lines.{Entry, rangesOf, within, firstOut, all, readLines}
+use Rattle.text.specs.Lines.{rangesOf, within, firstOut, all, readLines}
 use Rattle.text.proofs.Tables.{Read, in-range-at, all-in-range, lines-written}
 use Rattle.keys.specs.Settings.{newest, valueLines, tableOf}
 use Rattle.keys.specs.support.Lines.{nowhere}

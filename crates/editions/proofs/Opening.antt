@@ -1,6 +1,6 @@
 -- Which edition the first line opens, by the way that the code took; and that it is one that the desk knows.
 -- The two keys are computed from the table; a number that was read is within its range.
-use mathlib.Core.Path.{_≡_, refl, sym, ap, _∙_}
+use mathlib.Core.Path.{_≡_, refl, sym}
 use mathlib.Core.Logic.{⊎-elim}
 use mathlib.Core.Bool.{Bool, true, false}
 use mathlib.Core.List.{List}

@@ -3,7 +3,7 @@
 use mathlib.Core.Path.{_≡_, refl, sym, ap, _∙_}
 use mathlib.Core.Bool.{Bool, true, false, false≢true}
 use mathlib.Core.List.{List, [], _∷_}
-use Prim.Native.Nat.{ℕ, suc, _+_, _≤_, _<_}
+use Prim.Native.Nat.{ℕ, _+_, _≤_, _<_}
 use native.Mathlib.Numerals.{add-one}
 use native.Mathlib.Omega.{arith}
 use borrow.Author.Tests.{eq-eqb, ne-eqb}
@@ -11,8 +11,7 @@ use lib.Dec.{eqb}
 use lib.ListN.{length, drop, take, set, getD, drop-of-length-le}
 use lib.Seq.{drop-cons, length-take-le}
 use Rattle.laws.specs.Base.{if}
-use Rattle.answer.specs.declared.Answer.{Answer}
-use Rattle.answer.specs.Told.{Told, told, DONE, TEXT, succeeded}
+use Rattle.answer.specs.Told.{Told, TEXT, succeeded}
 use Rattle.text.specs.declared.Range.{Range}
 use Rattle.text.specs.Lines.{Entry, lineHead, taken, ill, out, readLine, Lines, all, textAt, readLines}
 use Rattle.text.specs.Lines as read
@@ -24,7 +23,7 @@ use Rattle.keys.proofs.Lines.{noEntry, entry-key, entry-range}
 use Rattle.settings.specs.declared.Settings.{Settings}
 use Rattle.settings.specs.Relations.{relation, related}
 use Rattle.settings.specs.Lows.{lowsCleared}
-use Rattle.editions.specs.Read.{ReadOut, editionOf, laidOut, warnBlocks, settled, refused, tested, concluded, readText}
+use Rattle.editions.specs.Read.{editionOf, laidOut, warnBlocks, settled, refused, tested, concluded, readText}
 use Rattle.editions.specs.support.Tables.{countOf, placeOf}
 use Rattle.editions.specs.support.Got.{linesTold}
 use Rattle.editions.proofs.Known.{Known, place-inside, entry-is}

@@ -2,7 +2,7 @@
 -- equal values; what is written is accepted and reads back to the same values. The round trips of any table, at those of the editions.
 use mathlib.Core.Path.{_≡_, refl, sym, ap, _∙_}
 use mathlib.Core.Logic.{⊎-elim}
-use mathlib.Core.Bool.{Bool, true, false, false≢true}
+use mathlib.Core.Bool.{Bool, true, false}
 use mathlib.Core.List.{List, [], _∷_, _++_, append-nil}
 use Prim.Native.Nat.{ℕ, zero, suc, _≤_, _<_}
 use native.Mathlib.Omega.{arith}
@@ -19,13 +19,12 @@ use Rattle.text.specs.Bytes.{bytes, starts}
 use Rattle.text.specs.Lines.{Entry, keysOf, rangesOf, within, firstOut, lineHead, lineText, linesText, LineRead, taken, ill, out, readLine, Lines, all, textAt, rangeAt, andThen, readLines}
 use Rattle.text.proofs.OneLine.{line-back}
 use Rattle.text.proofs.Tables.{first-in, lines-back, lines-written}
-use Rattle.keys.specs.Settings.{newest, opening, valueLines, tableOf}
+use Rattle.keys.specs.Settings.{newest, opening, tableOf}
 use Rattle.settings.specs.declared.Settings.{Settings}
-use Rattle.settings.specs.declared.relations.Fault.{Fault}
 use Rattle.settings.specs.Relations.{relation, related}
 use Rattle.settings.specs.Check.{outOfRange, checked}
-use Rattle.settings.proofs.Passed.{Passed, passed, passes, related-done, done-checks}
-use Rattle.editions.specs.Read.{ReadOut, editionOf, stated, laidOut, warnBlocks, settled, refused, tested, concluded, readText}
+use Rattle.settings.proofs.Passed.{passed, passes, related-done, done-checks}
+use Rattle.editions.specs.Read.{ReadOut, editionOf, stated, laidOut, warnBlocks, settled, tested, concluded, readText}
 use Rattle.editions.specs.Texts.{textIn, InOrder}
 use Rattle.editions.specs.Write.{numbersOf, textOf, writeAnswer, written}
 use Rattle.editions.proofs.Known.{Known, known}

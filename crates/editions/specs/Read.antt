@@ -1,12 +1,11 @@
 -- Documents 01, "Settings text", and 02, P2 and P3: the settings text read, in any edition that the desk knows. The first faulty line decides, in
 -- a line TEXT before RANGE, then the tail, then the relations.
 use Prim.Native.Nat.{ℕ, zero, suc}
-use mathlib.Core.Bool.{Bool}
 use mathlib.Core.List.{List, [], _∷_, _++_, map}
 use lib.Dec.{eqb}
 use lib.ListN.{length, getD}
 use Rattle.laws.specs.Base.{if, tabulate}
-use Rattle.answer.specs.Told.{Told, told, DONE, TEXT, RANGE, succeeded}
+use Rattle.answer.specs.Told.{Told, told, TEXT, RANGE, succeeded}
 use Rattle.text.specs.Bytes.{bytes, starts}
 use Rattle.text.specs.Lines.{lineHead, LineRead, taken, ill, out, readLine, Lines, all, textAt, rangeAt, readLines}
 use Rattle.keys.specs.Settings.{opening, tableOf}
@@ -38,8 +37,8 @@ abbrev pub repeated : ℕ → List ℕ → List ℕ
 repeated zero l = []
 repeated (suc n) l = l ++ repeated n l
 
--- the lines from which the values of the settings are taken. Line 13 of the first edition and line 14 of the second is `warn_blocks`;
--- the first edition's schedule is given to all eight; in the newest the values follow the first line as they stand
+-- the lines from which the values of the settings are taken. In older text that of `warn_blocks` is left out; the first edition's schedule
+-- is given to all eight; in the newest the values follow the first line as they stand
 unfoldable pub sources : ℕ → List ℕ
 sources e =
     if (eqb e 1) (run 13 0 ++ (run 14 14 ++ (repeated 8 (run 11 28) ++ run 32 39)))
@@ -48,7 +47,7 @@ sources e =
 unfoldable pub laidOut : ℕ → List ℕ → Settings
 laidOut e ns = record { values = map (λ i. getD ns i 0) (sources e) }
 
--- document 02, P3: the value of `warn_blocks` in older text
+-- document 02, P3: the value of `warn_blocks`, document 01's line 14; in the second edition one further on
 unfoldable pub warnBlocks : ℕ → List ℕ → ℕ
 warnBlocks e ns = if (eqb e 1) (getD ns 13 0) (if (eqb e 2) (getD ns 14 0) 0)
 

@@ -1,8 +1,8 @@
--- With its low limits at 0 a setting keeps every other value, has as many, and still passes the check.
+-- Settings with their low limits at 0 keep every other value, have as many, and still pass the check.
 -- A value is the old one or 0 by its place; 0 is within each low limit's range, and no relation but the fifth looks at one.
 use mathlib.Core.Path.{_≡_, refl, ap, _∙_}
 use mathlib.Core.Logic.{⊎-elim}
-use mathlib.Core.Bool.{Bool, true, false, not, _&&_}
+use mathlib.Core.Bool.{Bool, true, false, not}
 use mathlib.Core.List.{List, [], _∷_}
 use Prim.Native.Nat.{ℕ, zero, suc, _+_, _*_, _≤_, _<_}
 use native.Mathlib.Omega.{arith}

@@ -1,7 +1,7 @@
 -- Rules 1 to 4 as instances of the window fact: what `free` allowed is what each rule keeps, under normal limits and under low ones.
 -- The ring's count is the list's, so a rule that allowed a mark is the clause of `Kept` for it.
 use mathlib.Core.Path.{_≡_}
-use mathlib.Core.Bool.{Bool, true, false, not, _&&_}
+use mathlib.Core.Bool.{Bool, true, false}
 use mathlib.Core.List.{List, _∷_}
 use Prim.Native.Nat.{ℕ, _+_, _-_, _≤_, _<_}
 use native.Mathlib.Omega.{arith}
@@ -9,7 +9,6 @@ use borrow.Author.Tests.{leb-true}
 use lib.ListN.{getD, drop}
 use Rattle.laws.specs.Base.{allB}
 use Rattle.laws.proofs.All.{all-get}
-use Rattle.laws.proofs.Bools.{both}
 use Rattle.settings.specs.declared.names.Rule.{Rule}
 use Rattle.settings.specs.declared.names.Rules.{Rules}
 use Rattle.throttle.specs.Marks.{among}

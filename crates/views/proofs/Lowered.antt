@@ -1,5 +1,5 @@
--- Settings with their low limits at 0 are seen as the desk that refused every trigger under warning saw them with those that they had.
--- Every other value is the same, so every part of the view is; under warning rule 2 refuses where no trigger is within its limit.
+-- Settings whose low limits were set to 0 have the view of a desk that refuses every trigger under warning, and else goes by the old ones.
+-- Every other value is the same, so every other part of the view is; under warning a limit of 0 at rule 2 refuses.
 use mathlib.Core.Path.{_≡_, refl, sym}
 use mathlib.Core.Bool.{Bool, true, false, not, _&&_}
 use mathlib.Core.List.{List}

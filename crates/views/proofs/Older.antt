@@ -1,6 +1,6 @@
 -- The settings that an older text gives are seen as the desk of its edition saw the text's own numbers.
 -- Values by name are computed from the places of their lines; a controller's numbers and the partitions by the lines that give them.
-use mathlib.Core.Path.{_≡_, refl, ap, sym, fun-ext, _∙_}
+use mathlib.Core.Path.{_≡_, ap, sym, fun-ext, _∙_}
 use mathlib.Core.Logic.{⊎-elim}
 use mathlib.Core.List.{List}
 use Prim.Native.Nat.{ℕ, _+_, _-_, _*_, _%_, _≤_, _<_}

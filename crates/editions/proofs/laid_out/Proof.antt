@@ -10,10 +10,9 @@ use lib.Seq.{getD-take}
 use Rattle.laws.specs.Base.{tabulate}
 use Rattle.laws.proofs.Over.{over, fill-turn, fill-done}
 use Rattle.keys.specs.Settings.{newest}
-use Rattle.settings.specs.declared.Settings.{Settings}
 use Rattle.editions.specs.Read.{laidOut}
 use Rattle.editions.specs.support.Tables.{countOf, sourceOf}
-use Rattle.editions.proofs.Known.{Known, known, source-inside}
+use Rattle.editions.proofs.Known.{known, source-inside}
 use Rattle.editions.proofs.laid_out.Statement.{statement}
 use Rattle.editions.proofs.laid_out.Tie as tie
 

@@ -1,12 +1,12 @@
 -- `editions::numbers_of` meets its contract: a loop fills the numbers after the first, which is the edition's.
 -- The first n + 1 stand there already, and after the last turn all do.
-use mathlib.Core.Path.{_≡_, refl, sym, ap, _∙_}
+use mathlib.Core.Path.{_≡_, refl, _∙_}
 use mathlib.Core.List.{List, _∷_, append-nil}
 use Prim.Native.Nat.{ℕ, _+_, _-_, _≤_, _<_}
 use native.Mathlib.Numerals.{add-one}
 use native.Mathlib.Omega.{arith}
 use borrow.Author.Needs.{needs}
-use lib.ListN.{length, getD, set, drop, replicate, drop-of-length-le}
+use lib.ListN.{length, getD, set, drop-of-length-le}
 use Rattle.laws.proofs.Over.{over, over-set, over-all}
 use Rattle.keys.specs.Settings.{newest}
 use Rattle.editions.proofs.numbers_of.Statement.{statement}

@@ -3,7 +3,6 @@
 use mathlib.Core.Path.{_∙_}
 use native.Mathlib.Omega.{arith}
 use borrow.Author.Tests.{eq-eqb, ne-eqb}
-use borrow.Author.Needs.{needs}
 use Rattle.editions.proofs.tables.place.Statement.{statement}
 use Rattle.editions.proofs.tables.place.Tie as tie
 

@@ -1,7 +1,6 @@
 -- `editions::tables::stops` meets its contract: each way is the tests that led there.
 -- The line that is read is one of the edition's.
 use mathlib.Core.Path.{_≡_, sym, ap, _∙_}
-use mathlib.Core.Bool.{Bool}
 use mathlib.Core.List.{List}
 use Prim.Native.Nat.{ℕ, _<_}
 use borrow.Author.Tests.{eq-eqb, ne-eqb}

@@ -8,7 +8,7 @@ use Prim.Native.Nat.{ℕ, _+_, _-_, _*_, _≤_, _<_}
 use native.Mathlib.Omega.{arith}
 use borrow.Author.Tests.{not-true, not-false}
 use borrow.Author.Needs.{needs}
-use lib.ListN.{length, take, drop, getD, replicate, length-replicate, getD-replicate, List·getD-eq-default}
+use lib.ListN.{length, take, drop, replicate, length-replicate, getD-replicate, List·getD-eq-default}
 use Rattle.laws.specs.Base.{firstNot}
 use Rattle.laws.proofs.Tests.{lt-or-ge}
 use Rattle.laws.proofs.First.{first-start, first-next, first-here, first-end}

@@ -1,6 +1,6 @@
 -- `settings::Settings::first_late` meets its contract: a loop that stops at the first controller whose numbers are not all below the orbit.
 -- The laws of `firstNot`; the part that was lent has the eleven numbers of controller k.
-use mathlib.Core.Path.{_≡_, sym, ap, _∙_}
+use mathlib.Core.Path.{_≡_, sym, _∙_}
 use mathlib.Core.Bool.{Bool}
 use mathlib.Core.List.{List}
 use Prim.Native.Nat.{ℕ, _+_, _-_, _*_, _≤_}
