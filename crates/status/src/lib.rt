@@ -41,34 +41,29 @@ fn emulated(input: usize) -> u8
 }
 
 // The class of a code, by the kind of its input: 0 to 31 partitions, 32 to 39 aTTS, 40 GTFE.
+// It is Table 1 of the manual (document 003, 2.1.1) row by row, so that the two can be laid side by side.
 pub(crate) fn class(input: usize, code: u8) -> u8
     ensures { λ r. ⌜ r ≡ classOf input code ⌝ }
 {
-    if code == 0 {
-        return RANK_DISCONNECTED;
+    match code {
+        0b0000 => RANK_DISCONNECTED,
+        0b0001 => RANK_WARNING,
+        0b0010 => RANK_OUT_OF_SYNC,
+        0b0011 => RANK_BAD,
+        0b0100 => RANK_BUSY,
+        0b0101 => RANK_BAD,
+        0b0110 => RANK_BAD,
+        0b0111 => RANK_BAD,
+        0b1000 => RANK_READY,
+        0b1001 => RANK_BAD,
+        0b1010 => RANK_BAD,
+        0b1011 => emulated(input),
+        0b1100 => RANK_ERROR,
+        0b1101 => RANK_BAD,
+        0b1110 => RANK_BAD,
+        0b1111 => RANK_DISCONNECTED,
+        _ => RANK_BAD,
     }
-    if code == 15 {
-        return RANK_DISCONNECTED;
-    }
-    if code == 1 {
-        return RANK_WARNING;
-    }
-    if code == 2 {
-        return RANK_OUT_OF_SYNC;
-    }
-    if code == 4 {
-        return RANK_BUSY;
-    }
-    if code == 8 {
-        return RANK_READY;
-    }
-    if code == 12 {
-        return RANK_ERROR;
-    }
-    if code == 11 {
-        return emulated(input);
-    }
-    RANK_BAD
 }
 
 // What a member of that class counts: nothing where the settings ignore it.
