@@ -12,7 +12,8 @@
 enum { PIECE = 61440, RECORD = 24, ROW = 12, CODES = 21 };
 enum { NONE, READY, WARNING, BUSY, OUT_OF_SYNC, ERROR, BAD, DISCONNECTED };
 enum { NO_CYCLE, ARMED, OPEN };
-enum { LOST_STATE, LOST_SLOT, LOST_GAP, LOST_CAL, LOST_THROTTLE, SENT, FATES };
+/* What a request meets; SENT + r is lost to rule r of the throttle. */
+enum { LOST_STATE, LOST_SLOT, LOST_GAP, LOST_CAL, SENT, RULES = 4, FATES = SENT + RULES + 1 };
 /* The places of the settings that are read by name, in the order of their lines: in set[], ... */
 enum { ORBIT, GAP_LOW, GAP_HIGH, R1_GAP, R2, R3 = R2 + 3, R4 = R3 + 3, IGNORE_DISC = R4 + 3, IGNORE_BAD };
 enum { SETTLE_RESYNC = IGNORE_BAD + 1, SETTLE_HARD, RECOVER_RESYNC, RECOVER_HARD, SLOT0, SETTINGS = SLOT0 + 8 };
@@ -22,7 +23,7 @@ enum { BC0, TE, RESYNC, HARD, EC0, OC0, START, STOP, GAP, WTE, CAL, SCHEDULE };
 typedef struct {
     uint8_t state, cycle;
     uint32_t wait, at[SCHEDULE];
-    uint64_t requested, accepted, lost[SENT], cal_requested, cal_accepted, cal_lost, events;
+    uint64_t requested, met[FATES], cal_requested, cal_accepted, cal_lost, events;
 } Ptc;
 
 static uint32_t set[SETTINGS];
@@ -32,8 +33,8 @@ static Ptc ptcs[8];
 static uint8_t owner[40], rank[2][16];
 static const uint8_t shows[20] = {10, 4, 4, 4, 4, 4, 4, 8, 1, 0, 2, 12, 4, 4, 4, 4, 4, 4, 12, 4};
 
-/* Whether the throttle lets a trigger pass in this crossing: each desk has its way to count. */
-static int is_free(int warn);
+/* The first rule, 1 to 4, that refuses a trigger in this crossing, or 0: each desk has its way to count. */
+static int refused_by(int warn);
 
 static void take_over(uint32_t first) {
     for (uint32_t d = 0; d < 8; d++)
@@ -135,9 +136,14 @@ static int runs(const Ptc *p) { return p->state == 7 || p->state == 8; }
 
 static int in_gap(uint32_t number) { return set[GAP_LOW] <= number && number <= set[GAP_HIGH]; }
 
-/* What a request meets: the cause that it is lost under, or LOST_THROTTLE where the rules have to tell. */
+/* The cause that a request is lost under, or SENT where the rules have to tell. */
 static int cause(const Ptc *p, int own, int closed) {
-    return !runs(p) ? LOST_STATE : !own ? LOST_SLOT : closed ? LOST_GAP : p->cycle == OPEN ? LOST_CAL : LOST_THROTTLE;
+    return !runs(p) ? LOST_STATE : !own ? LOST_SLOT : closed ? LOST_GAP : p->cycle == OPEN ? LOST_CAL : SENT;
+}
+
+static int fate(const Ptc *p, int own, int closed) {
+    int why = cause(p, own, closed);
+    return why == SENT ? SENT + refused_by(p->state == 8) : why;
 }
 
 /* Cycle and trigger: the byte of a controller, by the state after the move and the code that it sent. */
@@ -151,14 +157,13 @@ static uint8_t act(Ptc *p, int own, uint32_t number, uint8_t code, int asked) {
     } else if (p->cycle == OPEN && number == p->at[TE] && !code)
         code = 2;
     if (asked) {
-        int why = cause(p, own, in_gap(number));
+        int met = fate(p, own, in_gap(number));
         p->requested++;
-        sent = why == LOST_THROTTLE && is_free(p->state == 8);
-        if (sent) p->accepted++;
-        else p->lost[why]++;
+        p->met[met]++;
+        sent = met == SENT;
     }
     if (p->cycle == OPEN && number == p->at[CAL]) {
-        cal = is_free(p->state == 8);
+        cal = !refused_by(p->state == 8);
         p->cal_requested++;
         if (cal) p->cal_accepted++;
         else p->cal_lost++;
@@ -232,10 +237,13 @@ static void report(void) {
     printf("crossings=%lu\norbit=%lu\nbc_errors=%lu\nholder=%u\n", crossings, orbit, errors, holder);
     for (int k = 0; k < 8; k++) {
         Ptc *p = &ptcs[k];
+        uint64_t throttled = 0;
         if (!set[SLOT0 + k]) continue;
-        printf("ptc=%d\nstate=%d\nrequested=%lu\naccepted=%lu\n", k, p->state, p->requested, p->accepted);
-        printf("lost_state=%lu\nlost_slot=%lu\nlost_gap=%lu\n", p->lost[LOST_STATE], p->lost[LOST_SLOT], p->lost[LOST_GAP]);
-        printf("lost_cal=%lu\nlost_throttle=%lu\n", p->lost[LOST_CAL], p->lost[LOST_THROTTLE]);
+        for (int r = 1; r <= RULES; r++) throttled += p->met[SENT + r];
+        printf("ptc=%d\nstate=%d\nrequested=%lu\naccepted=%lu\n", k, p->state, p->requested, p->met[SENT]);
+        printf("lost_state=%lu\nlost_slot=%lu\nlost_gap=%lu\n", p->met[LOST_STATE], p->met[LOST_SLOT], p->met[LOST_GAP]);
+        printf("lost_cal=%lu\nlost_throttle=%lu\n", p->met[LOST_CAL], throttled);
+        for (int r = 1; r <= RULES; r++) printf("lost_r%d=%lu\n", r, p->met[SENT + r]);
         printf("cal_requested=%lu\ncal_accepted=%lu\ncal_lost=%lu\n", p->cal_requested, p->cal_accepted, p->cal_lost);
         printf("events=%lu\n", p->events);
     }

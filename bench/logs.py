@@ -15,12 +15,13 @@
     a code bounces     as `holder asks`, with one input that carries a code in no two crossings in a row: it stays believed ready
     eight schedules    as `eight ask`, but each controller goes by its own schedule: some controller acts at every fortieth number
     stopped by warning as `holder asks`, but under warning, with text whose `warn_blocks` is 1: every request is lost to the throttle
+    rule 4 refuses     as `holder asks`, but rule 4 allows one trigger in 2,047 crossings: all four rules are counted, and the last refuses
 
 A code counts when two crossings in a row carry it (P1), so `codes change`, `codes flip` and `anything goes`, which are older and
 had a merge at every crossing, have fewer. They stay as they were: what P1 does to the speed shows in them.
 
 Only `eight schedules` has settings that need edition 2 (P2). The others are written in edition 1, which a desk from before P2 reads
-too: what P2 and P3 do to the speed shows in them.
+too: what P2, P3 and P5 do to the speed shows in them.
 
 A log is START for each group, three quiet orbits, in which the controllers become ready, and then ten orbits of records, which
 are repeated, since chance is slow to make. So many are not learned by the processor that README.md names: with fifty orbits the
@@ -136,6 +137,7 @@ LOGS = [
     Log("a code bounces", {}, 1, bouncing),
     Log("eight schedules", EIGHT | OWN, 8, calibrating, edition=2),
     Log("stopped by warning", {"warn_blocks": 1}, 1, warned),
+    Log("rule 4 refuses", {"r4_period": 2047, "r4_norm": 1, "r4_low": 1}, 1, lambda chance, n: crossing(1)),
 ]
 
 

@@ -51,11 +51,13 @@ static uint32_t among(uint64_t n, uint64_t k) {
     return sum;
 }
 
-static int is_free(int warn) {
-    if (among(crossings, set[R1_GAP])) return 0;
-    for (int r = R2; r <= R4; r += 3)
-        if (among(crossings, set[r] - 1) + 1 > set[r + 1 + warn]) return 0;
-    return 1;
+static int refused_by(int warn) {
+    if (among(crossings, set[R1_GAP])) return 1;
+    for (int r = 2; r <= RULES; r++) {
+        uint32_t *rule = &set[R2 + 3 * (r - 2)];
+        if (among(crossings, rule[0] - 1) + 1 > rule[1 + warn]) return r;
+    }
+    return 0;
 }
 
 static void mark(uint64_t c, int x) {

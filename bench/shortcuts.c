@@ -7,7 +7,7 @@
  * A date is a number at which some controller may act: 0, and those of all eight schedules. */
 #include "desk.h"
 
-enum { RULES = 4, LONGEST = 255 };
+enum { LONGEST = 255 };
 static const uint64_t LANES = 0x0101010101010101ull, EACH_CODE = 0x1111111111111111ull;
 
 /* Made once, from the settings. */
@@ -125,20 +125,21 @@ static void mark(uint64_t n, int passes) {
     for (int r = 0; r < RULES; r++) fills[r] = held[r] + passes;
 }
 
-static int is_free(int warn) {
-    if (held[0]) return 0;
+static int refused_by(int warn) {
+    if (held[0]) return 1;
     for (int r = 1; r < RULES; r++)
-        if (held[r] >= set[R2 + 3 * (r - 1) + 1 + warn]) return 0;
-    return 1;
+        if (held[r] >= set[R2 + 3 * (r - 1) + 1 + warn]) return r + 1;
+    return 0;
 }
 
 /* The tally into the counts. */
 static void settle(void) {
     for (int k = 0; k < 8; k++) {
         Ptc *p = &ptcs[k];
-        for (int f = 0; f < FATES; f++) p->requested += tally[k][f];
-        for (int f = 0; f < SENT; f++) p->lost[f] += tally[k][f];
-        p->accepted += tally[k][SENT];
+        for (int f = 0; f < FATES; f++) {
+            p->requested += tally[k][f];
+            p->met[f] += tally[k][f];
+        }
         p->events += tally[k][SENT];
     }
     memset(tally, 0, sizeof tally);
@@ -158,7 +159,7 @@ static uint32_t until_date(uint32_t number) {
 }
 
 /* Whether the throttle decides on the holder's requests here: all others have a cause without it. */
-static int rules_decide(int closed) { return holder < 8 && cause(&ptcs[holder], 1, closed) == LOST_THROTTLE; }
+static int rules_decide(int closed) { return holder < 8 && cause(&ptcs[holder], 1, closed) == SENT; }
 
 /* Whether a record is a crossing without a marker in which the believed codes stay. */
 static int goes_on(const uint8_t *rec) { return !(word(rec) & 0xFFFF) && stays(rec); }
@@ -169,7 +170,7 @@ static int goes_on(const uint8_t *rec) { return !(word(rec) & 0xFFFF) && stays(r
 static int stretch(const uint8_t *log, int records, uint8_t *rows) {
     int most = until_date(next_number), m = 0;
     int closed = in_gap(next_number), ruled = rules_decide(closed), warn = ruled && ptcs[holder].state == 8;
-    uint64_t open = ruled ? 1ull << 8 * holder : 0, owed = 0, sent = 0, refused = 0;
+    uint64_t open = ruled ? 1ull << 8 * holder : 0, owed = 0, met[RULES + 1] = {0}; /* sent, and lost to each rule */
     if (most > records) most = records;
     if (most > LONGEST) most = LONGEST;
     do {
@@ -178,9 +179,9 @@ static int stretch(const uint8_t *log, int records, uint8_t *rows) {
         int passes = 0;
         drop_oldest(crossings + m);
         if (asks & open) {
-            passes = is_free(warn);
-            sent += passes;
-            refused += !passes;
+            int rule = refused_by(warn);
+            passes = !rule;
+            met[rule]++;
         }
         owed += asks & ~open;
         mark(crossings + m, passes);
@@ -192,10 +193,8 @@ static int stretch(const uint8_t *log, int records, uint8_t *rows) {
         uint32_t k = first_lane(owed);
         tally[k][cause(&ptcs[k], k == holder, closed)] += owed >> 8 * k & 255;
     }
-    if (ruled) {
-        tally[holder][SENT] += sent;
-        tally[holder][LOST_THROTTLE] += refused;
-    }
+    if (ruled)
+        for (int r = 0; r <= RULES; r++) tally[holder][SENT + r] += met[r];
     advance(next_number, m);
     return m;
 }
@@ -225,10 +224,9 @@ static void plain_crossing(const uint8_t *rec, uint64_t changed, uint8_t *row) {
     memcpy(row, still, ROW);
     drop_oldest(crossings);
     if (holder < 8 && rec[2] >> holder & 1) {
-        Ptc *p = &ptcs[holder];
-        int fate = cause(p, 1, in_gap(next_number));
-        passes = fate == LOST_THROTTLE && is_free(p->state == 8);
-        tally[holder][passes ? SENT : fate]++;
+        int met = fate(&ptcs[holder], 1, in_gap(next_number));
+        passes = met == SENT;
+        tally[holder][met]++;
         row[holder] = 16 * passes;
     }
     mark(crossings, passes);

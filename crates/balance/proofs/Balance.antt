@@ -20,9 +20,9 @@ use Rattle.keys.specs.Report.{commonKeys}
 use Rattle.settings.specs.declared.Settings.{Settings}
 use Rattle.settings.specs.Names.{waitsOf, scheduleOf}
 use Rattle.settings.proofs.Bounds.{times-apart}
+use Rattle.counts.proofs.Balance.{Balanced as CountsBalanced, counts-read}
 use Rattle.ptc.specs.declared.Ptc.{Ptc}
 use Rattle.ptc.specs.Command.{commandedOf}
-use Rattle.ptc.proofs.Balance.{Balanced as CountsBalanced, counts-read}
 use Rattle.ptc.proofs.Keeps.{Sound, sound-read}
 use Rattle.records.specs.Records.{recAt, isCrossing, askedIn}
 use Rattle.records.specs.Rows.{commandRow}
@@ -44,7 +44,7 @@ use Rattle.logbook.proofs.Ground.{ground, fit-at, row-at}
 use Rattle.logbook.proofs.Beams.{own-settings}
 use Rattle.logbook.proofs.Seen.{sceneIn, ptcIn, classIn, crossedIn, code-told, sent-told, cal-told, runs-told, warns-told, next-told}
 use Rattle.slots.proofs.Slots.{number-seen, holder-seen}
-use Rattle.windows.proofs.Windows.{clear-told}
+use Rattle.windows.proofs.Windows.{rule-told}
 use Rattle.balance.specs.Reading.{Reading, lookAt, pastCrossing, pastCommand, counted, readingOf}
 use Rattle.balance.specs.Balanced.{settled, shownAs, read, Balanced, readOff, Reported, Balances}
 use Rattle.balance.proofs.Steps.{Follows, lookOf, crossing-follows, command-follows, passed-by}
@@ -86,7 +86,7 @@ module _ {s : Settings} {log buffer : List ℕ} (t : Taken s log buffer) (k : �
         code-told t c k low,
         runs-told t c k low,
         warns-told t c k low,
-        ← clear-told t c (crossedIn s log i k .ptc .state),
+        ← rule-told t c (crossedIn s log i k .ptc .state),
         ← holder-seen t c,
         ← number-seen t c,
       )
@@ -151,13 +151,13 @@ module _ {s : Settings} {log buffer : List ℕ} (t : Taken s log buffer) (k : �
       rw e (⊎-elim (λ q. to-this i h e q f) (λ q. to-other i h e q f) (either (eqb (getD (recAt log i) 1 0) k))))
       (either (isCrossing (recAt log i)))
 
-  -- ---- both sums, and one cause for each request
+  -- ---- the three sums, and one cause for each request
 
   sums-read : (i : ℕ) → i ≤ recordsIn log → CountsBalanced (before i .clock .crossings) (reading i .counts)
   sums-read i h = rw (follows i h .counts) (sums-agree (before i) (fit-at t i h) k)
 
   settles : (i : ℕ) → i ≤ recordsIn log → reading i .counts .requested ≡ settled (reading i .counts)
-  settles i h = sums-read i h .requests .balance
+  settles i h = let sums = sums-read i h .requests in omega (arith, sums .balance, sums .throttled)
 
   asked-next : (i : ℕ) (c : Crossing log i) → reading (suc i) .counts .requested ≡ reading i .counts .requested + one (lookAt s log rows k i .asked)
   unfolding readingOf pastCrossing counted
@@ -177,6 +177,7 @@ module _ {s : Settings} {log buffer : List ℕ} (t : Taken s log buffer) (k : �
   balanced =
       record {
         requests = settles (recordsIn log) (omega arith);
+        throttled = sums-read (recordsIn log) (omega arith) .requests .throttled;
         calibrations = sums-read (recordsIn log) (omega arith) .cals .balance;
         counts = closing-counts;
         events = closing-events;

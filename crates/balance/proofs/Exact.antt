@@ -11,11 +11,12 @@ use Rattle.laws.specs.Base.{if}
 use Rattle.settings.specs.declared.Settings.{Settings}
 use Rattle.settings.specs.Names.{gapOf}
 use Rattle.states.specs.Names.{running}
+use Rattle.counts.specs.Counts.{SENT, STATE, SLOT, GAP, CAL, ruled, inGap, fateOf}
+use Rattle.counts.proofs.Balance.{ruled-free}
 use Rattle.ptc.specs.declared.Ptc.{Ptc}
 use Rattle.ptc.specs.declared.Scene.{Scene}
 use Rattle.ptc.specs.Cycle.{OPEN, asksOf}
-use Rattle.ptc.specs.Counts.{SENT, STATE, SLOT, GAP, CAL, THROTTLE, inGap, fateOf}
-use Rattle.ptc.specs.Crossing.{freeIn, crossedOf}
+use Rattle.ptc.specs.Crossing.{ruleIn, crossedOf}
 use Rattle.records.specs.Records.{recAt, askedIn}
 use Rattle.kit.specs.Kit.{planOf}
 use Rattle.logbook.specs.Whole.{Taken, Crossing, whole}
@@ -29,14 +30,13 @@ use Rattle.balance.proofs.Balance.{away, later, few, look-told, follows
 -- ---- one controller
 
 -- sent is the fate where no cause holds
-fate-sent : (runs own gap busy free : Bool)
-    → eqb (if runs (if own (if gap GAP (if busy CAL (if free SENT THROTTLE))) SLOT) STATE) SENT ≡ runs && (own && (not gap && (not busy && free)))
-fate-sent false own gap busy free = refl
-fate-sent true false gap busy free = refl
-fate-sent true true true busy free = refl
-fate-sent true true false true free = refl
-fate-sent true true false false true = refl
-fate-sent true true false false false = refl
+fate-sent : (runs own gap busy : Bool) (rule : ℕ)
+    → eqb (if runs (if own (if gap GAP (if busy CAL (ruled rule))) SLOT) STATE) SENT ≡ runs && (own && (not gap && (not busy && eqb rule 0)))
+fate-sent false own gap busy rule = refl
+fate-sent true false gap busy rule = refl
+fate-sent true true true busy rule = refl
+fate-sent true true false true rule = refl
+fate-sent true true false false rule = ruled-free rule
 
 module _ (s : Settings) (scene : Scene) (k class : ℕ) (asked : Bool) (p : Ptc) where
   abbrev busy : Bool
@@ -47,7 +47,7 @@ module _ (s : Settings) (scene : Scene) (k class : ℕ) (asked : Bool) (p : Ptc)
   request-due =
       let state = crossedOf (planOf s k) scene k class asked p .ptc .state in
       ap (λ (x : Bool). asked && x)
-      (fate-sent (running state) (eqb k (scene .holder)) (inGap (gapOf s) (scene .number)) busy (freeIn scene state))
+      (fate-sent (running state) (eqb k (scene .holder)) (inGap (gapOf s) (scene .number)) busy (ruleIn scene state))
 
   calibration-due : lookOf s scene k class asked p .cal ≡ calDue s k (lookOf s scene k class asked p) busy
   unfolding crossedOf asksOf

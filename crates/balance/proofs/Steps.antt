@@ -17,13 +17,13 @@ use Rattle.settings.specs.declared.names.Waits.{Waits}
 use Rattle.settings.specs.Names.{gapOf, scheduleOf}
 use Rattle.states.specs.Names.{running}
 use Rattle.states.specs.Commands.{START, CALIBRATE, takes}
+use Rattle.counts.specs.declared.Counts.{Counts}
+use Rattle.counts.specs.declared.Calibrations.{Calibrations}
+use Rattle.counts.specs.Counts.{SENT, fateOf, lostTo, requestedOf, calibratedOf, noCounts}
 use Rattle.ptc.specs.declared.Ptc.{Ptc}
 use Rattle.ptc.specs.declared.Scene.{Scene}
-use Rattle.ptc.specs.declared.counts.Counts.{Counts}
-use Rattle.ptc.specs.declared.counts.Calibrations.{Calibrations}
 use Rattle.ptc.specs.Cycle.{NONE, OPEN, keptOf, openedOf, asksOf}
-use Rattle.ptc.specs.Counts.{SENT, fateOf, lostTo, requestedOf, calibratedOf, noCounts}
-use Rattle.ptc.specs.Crossing.{freeIn, crossedOf}
+use Rattle.ptc.specs.Crossing.{ruleIn, freeIn, crossedOf}
 use Rattle.ptc.specs.Command.{armedPtc, ledPtc, commandedOf}
 use Rattle.kit.specs.Kit.{planOf}
 use Rattle.logbook.specs.Row.{takenIn}
@@ -108,7 +108,7 @@ module _ (s : Settings) (scene : Scene) (k class : ℕ) (asked : Bool) (p : Ptc)
         runs = running (x .ptc .state);
         own = eqb k (scene .holder);
         number = scene .number;
-        clear = freeIn scene (x .ptc .state);
+        rule = ruleIn scene (x .ptc .state);
       }
 
   abbrev now : ℕ
@@ -130,7 +130,7 @@ module _ (s : Settings) (scene : Scene) (k class : ℕ) (asked : Bool) (p : Ptc)
     counts-same =
         let free = freeIn scene state in
         let asks = asksOf (scheduleOf s k) (scene .number) now in
-        let fate = fateOf (gapOf s) (scene .number) state (eqb k (scene .holder)) now free in
+        let fate = fateOf (gapOf s) (scene .number) state (eqb k (scene .holder)) (eqb now OPEN) (ruleIn scene state) in
         rw (calibrations-same asks free (p .counts .cal)) (requests-same asked fate (p .counts) (calibratedOf asks free (p .counts .cal)))
 
     ends-same : eqb now OPEN && not (asksOf (scheduleOf s k) (scene .number) now) ≡ eqb (crossedOf (planOf s k) scene k class asked p .ptc .cycle) OPEN

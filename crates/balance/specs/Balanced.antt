@@ -1,5 +1,5 @@
--- Demand 3, third sentence: requests since the last accepted START, or the fresh board, equal those sent plus those lost under the
--- five causes; and the closing board's counts, and so the report that is written, are those that the reading has.
+-- Demand 3, third sentence, and document 02, P5: requests since the last accepted START, or the fresh board, equal those sent plus those
+-- lost under the eight causes; and the closing board's counts, and so the report that is written, are those that the reading has.
 use Prim.Native.Nat.{ℕ, suc, _+_, _≤_, _<_}
 use mathlib.Core.Path.{_≡_}
 use mathlib.Core.List.{List, _++_}
@@ -9,9 +9,10 @@ use Rattle.answer.specs.Told.{DONE}
 use Rattle.text.specs.Lines.{linesText}
 use Rattle.keys.specs.Report.{commonKeys}
 use Rattle.settings.specs.declared.Settings.{Settings}
+use Rattle.counts.specs.declared.Counts.{Counts}
+use Rattle.counts.specs.declared.Lost.{Lost}
+use Rattle.counts.specs.Sound.{rulesSum}
 use Rattle.ptc.specs.declared.Ptc.{Ptc}
-use Rattle.ptc.specs.declared.counts.Counts.{Counts}
-use Rattle.ptc.specs.Sound.{lostSum}
 use Rattle.records.specs.Refusal.{recordsIn}
 use Rattle.board.specs.declared.Board.{Board}
 use Rattle.ptc.specs.Fresh.{freshPtc}
@@ -19,9 +20,13 @@ use Rattle.report.specs.Report.{commonValues, blocksFrom, reported}
 use Rattle.logbook.specs.Whole.{Taken, Crossing, whole}
 use Rattle.balance.specs.Reading.{Reading, lookAt, readingOf}
 
+-- lost to the state, the slot, the gap, a calibration, or one of the four rules
+abbrev pub lostTogether : Lost → ℕ
+lostTogether l = l .state + (l .slot + (l .gap + (l .cal + rulesSum (l .rules))))
+
 -- sent, or lost
 abbrev pub settled : Counts → ℕ
-settled c = c .accepted + lostSum (c .lost)
+settled c = c .accepted + lostTogether (c .lost)
 
 -- a controller that has a reading's counts, and a state
 abbrev pub shownAs : Reading → ℕ → Ptc
@@ -34,6 +39,8 @@ read s log rows k = readingOf s log rows k (recordsIn log)
 module _ (s : Settings) (log rows : List ℕ) (closing : Board) where
   pub record Balanced (k : ℕ) : Type 0 where
     pub requests : read s log rows k .counts .requested ≡ settled (read s log rows k .counts)
+    -- `lost_throttle` is the sum of its four lines
+    pub throttled : read s log rows k .counts .lost .throttle ≡ rulesSum (read s log rows k .counts .lost .rules)
     pub calibrations : read s log rows k .counts .cal .requested ≡ read s log rows k .counts .cal .accepted + read s log rows k .counts .cal .lost
     pub counts : getD (closing .ptcs) k freshPtc .counts ≡ read s log rows k .counts
     pub events : getD (closing .ptcs) k freshPtc .events ≡ read s log rows k .events

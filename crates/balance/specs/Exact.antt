@@ -6,18 +6,18 @@ use mathlib.Core.Bool.{Bool, not, _&&_}
 use mathlib.Core.List.{List}
 use Rattle.settings.specs.declared.Settings.{Settings}
 use Rattle.settings.specs.Names.{gapOf}
-use Rattle.ptc.specs.Counts.{inGap}
+use Rattle.counts.specs.Counts.{inGap}
 use Rattle.logbook.specs.Whole.{Taken, Crossing, whole}
-use Rattle.balance.specs.Reading.{Look, lookAt, opens, asksFor, readingOf}
+use Rattle.balance.specs.Reading.{Look, clear, lookAt, opens, asksFor, readingOf}
 
 -- a request is due where it is asked, the status is ready or warning, the slot its own, the number outside the gap, no cycle open, and
 -- the four rules are clear
 abbrev pub due : Settings → Look → Bool → Bool
-due s l busy = l .asked && (l .runs && (l .own && (not (inGap (gapOf s) (l .number)) && (not busy && l .clear))))
+due s l busy = l .asked && (l .runs && (l .own && (not (inGap (gapOf s) (l .number)) && (not busy && clear l))))
 
 -- a calibration trigger is due where an open cycle asks at its number and the rules are clear
 abbrev pub calDue : Settings → ℕ → Look → Bool → Bool
-calDue s k l busy = asksFor s k l busy && l .clear
+calDue s k l busy = asksFor s k l busy && clear l
 
 -- controller k's cycle is open in crossing i
 abbrev pub busyIn : Settings → List ℕ → List ℕ → ℕ → ℕ → Bool

@@ -1,4 +1,4 @@
--- Demand 3, third sentence: what a bench counts by itself, walking records and rows side by side. It never sees the board.
+-- Demand 3, third sentence, and document 02, P5: what a bench counts by itself, walking records and rows side by side. It never sees the board.
 use Prim.Native.Nat.{ℕ, zero, suc, _+_}
 use mathlib.Core.Bool.{Bool, false, not, _&&_, _||_}
 use mathlib.Core.List.{List}
@@ -8,11 +8,11 @@ use Rattle.laws.specs.Base.{if, one}
 use Rattle.settings.specs.declared.Settings.{Settings}
 use Rattle.settings.specs.declared.names.Gap.{Gap}
 use Rattle.settings.specs.Names.{gapOf, scheduleOf, rulesOf}
-use Rattle.throttle.specs.Windows.{freeAfter}
+use Rattle.throttle.specs.Windows.{refusedAfter}
 use Rattle.states.specs.Commands.{START}
-use Rattle.ptc.specs.declared.counts.Counts.{Counts}
-use Rattle.ptc.specs.declared.counts.Calibrations.{Calibrations}
-use Rattle.ptc.specs.Counts.{SENT, STATE, SLOT, GAP, CAL, THROTTLE, inGap, lostTo, noCounts}
+use Rattle.counts.specs.declared.Counts.{Counts}
+use Rattle.counts.specs.declared.Calibrations.{Calibrations}
+use Rattle.counts.specs.Counts.{STATE, SLOT, GAP, CAL, inGap, ruled, lostTo, noCounts}
 use Rattle.records.specs.Records.{recAt, isCrossing, askedIn}
 use Rattle.logbook.specs.Row.{rowAt, codeIn, sentIn, calIn, runsIn, warnsIn, takenIn}
 use Rattle.slots.specs.Orbits.{numberBy, holderBy}
@@ -30,8 +30,8 @@ abbrev pub unread : Reading
 unread = record { calibrating = false; counts = noCounts; events = 0 }
 
 -- what the bench sees of controller k in crossing i: its request bit, the row's bits and code, ready or warning by the row's status,
--- the number and whether the slot is its own by the settings and the markers, and whether the throttle is clear by the triggers in
--- the rows of the crossings before, of all eight controllers
+-- the number and whether the slot is its own by the settings and the markers, and the first rule that refuses, 0 where none does, by the
+-- triggers in the rows of the crossings before, of all eight controllers, under the limits of the row's status
 pub record Look : Type 0 where
   pub asked : Bool
   pub sent : Bool
@@ -40,7 +40,7 @@ pub record Look : Type 0 where
   pub runs : Bool
   pub own : Bool
   pub number : ℕ
-  pub clear : Bool
+  pub rule : ℕ
 
 unfoldable pub lookAt : (s : Settings) (log rows : List ℕ) (k i : ℕ) → Look
 lookAt s log rows k i = record {
@@ -51,30 +51,34 @@ lookAt s log rows k i = record {
   runs = runsIn (rowAt rows i) k;
   own = eqb k (holderBy s log i);
   number = numberBy s log i;
-  clear = freeAfter (rulesOf s) (triggers (crossingRows log rows i)) (warnsIn (rowAt rows i) k);
+  rule = refusedAfter (rulesOf s) (triggers (crossingRows log rows i)) (warnsIn (rowAt rows i) k);
 }
 
 -- the cycle is open from code 13 on, while the status is ready or warning and the slot its own
 unfoldable pub opens : Look → Bool → Bool
 opens l before = l .runs && (l .own && (before || eqb (l .code) 13))
 
--- a request is lost under the first that holds: state, slot, gap, cal, throttle. Each is tested; where none holds it must have been sent
+-- a request is lost under the first of eight that holds: state, slot, gap, cal, the four rules. Each is tested; where none holds it must
+-- have been sent
 unfoldable pub cause : Gap → Look → Bool → ℕ
 cause gap l busy =
     if (l .runs)
     (if (l .own)
     (if (inGap gap (l .number)) GAP
-    (if busy CAL
-    (if (l .clear) SENT THROTTLE)))
+    (if busy CAL (ruled (l .rule))))
     SLOT)
     STATE
 
--- a calibration trigger is asked for, sent by the row, and can only be lost to the throttle
+-- the rules are clear
+abbrev pub clear : Look → Bool
+clear l = eqb (l .rule) 0
+
+-- a calibration trigger is asked for, sent by the row, and can only be lost to the throttle; by which rule is not counted
 unfoldable pub calCounted : Look → Bool → Calibrations → Calibrations
 calCounted l asks c = record {
   requested = c .requested + one asks;
   accepted = c .accepted + one (l .cal);
-  lost = c .lost + one (asks && not (l .clear));
+  lost = c .lost + one (asks && not (clear l));
 }
 
 -- requests by the records, those sent by the rows, those lost by their cause: three counts of which none is made from another, so

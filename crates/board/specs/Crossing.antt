@@ -31,13 +31,13 @@ turnBy v b marker = turnedOf (v .slots) (orbitEnds (b .clock) marker) (b .turn)
 abbrev pub turnIn : Board → Bool → Turn
 turnIn b = turnBy (viewOf (b .settings)) b
 
--- a trigger now would be within the rules
-abbrev pub freeBy : View → Board → Bool → Bool
-freeBy v b = v .free (b .marks) (b .clock .crossings)
+-- the first rule that would refuse a trigger now, 0 where none does
+abbrev pub refusedNow : View → Board → Bool → ℕ
+refusedNow v b = v .refused (b .marks) (b .clock .crossings)
 
 -- what all eight see of this crossing. Only the holder can send, and the rules look at earlier crossings alone
 abbrev pub sceneAtBy : (v : View) (b : Board) (number holder : ℕ) → Scene
-sceneAtBy v b number holder = record { number = number; holder = holder; norm = freeBy v b false; low = freeBy v b true }
+sceneAtBy v b number holder = record { number = number; holder = holder; norm = refusedNow v b false; low = refusedNow v b true }
 
 abbrev pub sceneAt : (b : Board) (number holder : ℕ) → Scene
 sceneAt b = sceneAtBy (viewOf (b .settings)) b

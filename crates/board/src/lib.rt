@@ -101,6 +101,7 @@ impl Board {
     {
         let kit = Kit::of(self.settings);
         let slots = kit.slots;
+        let rules = kit.rules;
         let busy = kit::busy_of(self.settings);
         let mut clock = self.clock;
         let held = self.held;
@@ -136,7 +137,7 @@ impl Board {
             sight = next;
             let classes = sight.classes;
             let h = self.ptcs[(sight.turn.holder % 8) as usize];
-            let scene = sight.scene(&kit.times, kit.waits, kit.rules, h, &self.marks, clock);
+            let scene = sight.scene(&kit.times, kit.waits, rules, h, &self.marks, clock);
             let mut bytes = [0u8; 8];
             calm = true;
             let mut k = still::next_due(sight.due, 0);

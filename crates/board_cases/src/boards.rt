@@ -2,9 +2,10 @@
 use board::Board;
 use clock::Clock;
 use clock::Turn;
-use ptc::Calibrations;
-use ptc::Counts;
-use ptc::Lost;
+use counts::ByRule;
+use counts::Calibrations;
+use counts::Counts;
+use counts::Lost;
 use ptc::Ptc;
 use settings::Settings;
 use steady::Held;
@@ -50,14 +51,21 @@ pub(crate) fn set_clock(mut board: Board, f: u64, value: u64) -> Board {
     board
 }
 
-// By field from 4: requested, accepted, the five losses, then the three of calibration.
+// By field from 4: requested, accepted, the five losses, the three of calibration, then the four of the rules.
 fn set_count(c: Counts, f: u64, value: u64) -> Counts {
+    let rules = ByRule {
+        first: pick(f, 14, value, c.lost.rules.first),
+        second: pick(f, 15, value, c.lost.rules.second),
+        third: pick(f, 16, value, c.lost.rules.third),
+        fourth: pick(f, 17, value, c.lost.rules.fourth),
+    };
     let lost = Lost {
         state: pick(f, 6, value, c.lost.state),
         slot: pick(f, 7, value, c.lost.slot),
         gap: pick(f, 8, value, c.lost.gap),
         cal: pick(f, 9, value, c.lost.cal),
         throttle: pick(f, 10, value, c.lost.throttle),
+        rules: rules,
     };
     let cal = Calibrations {
         requested: pick(f, 11, value, c.cal.requested),
@@ -126,6 +134,10 @@ pub(crate) fn set_codes(mut board: Board, code: u64) -> Board {
     board
 }
 
+fn is_same_rules(a: ByRule, b: ByRule) -> bool {
+    (a.first == b.first) & (a.second == b.second) & (a.third == b.third) & (a.fourth == b.fourth)
+}
+
 fn is_same_counts(a: Counts, b: Counts) -> bool {
     (a.requested == b.requested)
         & (a.accepted == b.accepted)
@@ -134,6 +146,7 @@ fn is_same_counts(a: Counts, b: Counts) -> bool {
         & (a.lost.gap == b.lost.gap)
         & (a.lost.cal == b.lost.cal)
         & (a.lost.throttle == b.lost.throttle)
+        & is_same_rules(a.lost.rules, b.lost.rules)
         & (a.cal.requested == b.cal.requested)
         & (a.cal.accepted == b.cal.accepted)
         & (a.cal.lost == b.cal.lost)

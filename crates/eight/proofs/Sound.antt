@@ -15,9 +15,10 @@ use Rattle.laws.proofs.Bools.{and-yes}
 use Rattle.laws.proofs.Tests.{lt-or-ge}
 use Rattle.laws.proofs.All.{alli-get}
 use Rattle.states.specs.Sound.{soundState}
+use Rattle.counts.specs.Sound.{withinCounts, soundCounts}
+use Rattle.counts.proofs.Balance.{none-sound}
 use Rattle.ptc.specs.declared.Ptc.{Ptc}
-use Rattle.ptc.specs.Sound.{soundCounts, soundPtc}
-use Rattle.ptc.proofs.Balance.{none-sound}
+use Rattle.ptc.specs.Sound.{soundPtc}
 use Rattle.ptc.specs.Fresh.{freshPtc}
 use Rattle.eight.specs.Eight.{soundAt, soundEight}
 
@@ -34,5 +35,5 @@ ptc-at holder m ps k e =
     (lt-or-ge k (length ps))
 
 pub fresh-eight-sound : (holder : ℕ) → soundEight holder 0 (replicate 8 freshPtc) ≡ true
-unfolding soundEight allI soundPtc soundState soundCounts
+unfolding soundEight allI soundPtc soundState withinCounts soundCounts
 fresh-eight-sound holder = refl

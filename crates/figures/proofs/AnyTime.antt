@@ -16,7 +16,7 @@ use Rattle.throttle.specs.Rules.{free}
 use Rattle.throttle.specs.Windows.{Tells, freeAfter}
 use Rattle.throttle.proofs.Ring.{passed-long}
 use Rattle.throttle.proofs.Windows.{tells-on, none-told}
-use Rattle.throttle.proofs.Instances.{free-told}
+use Rattle.throttle.proofs.Instances.{refused-told}
 use Rattle.runup.proofs.Walk.{near-standard}
 use Rattle.figures.specs.Figures.{sends, sendsFrom}
 
@@ -36,7 +36,7 @@ sends-same warn (suc left) k n ws ms long told =
     let next : Tells (passed ws n (one sent)) (suc n) (one sent ∷ ms) =
     rw (← add-one n) (tells-on ws n ms (one sent) long (omega (arith, one-le sent)) told) in
     let rest = sends-same warn left (suc k) (suc n) (passed ws n (one sent)) (one sent ∷ ms) (passed-long ws n (one sent) ∙ long) next in
-    rw rest (rw (free-told (rulesOf standard) near-standard ws n ms told (warn k)))
+    rw rest (rw (refused-told (rulesOf standard) near-standard ws n ms told (warn k)))
 
 pub any-time : (t : ℕ) (warn : ℕ → Bool) → sendsFrom t warn ≡ sendsAfter warn 251 0 []
 any-time t warn = sends-same warn 251 0 t (replicate 32 0) [] refl (none-told t)

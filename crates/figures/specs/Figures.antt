@@ -16,8 +16,8 @@ use Rattle.throttle.specs.Rules.{free}
 use Rattle.clock.specs.declared.Clock.{Clock}
 use Rattle.clock.specs.Clock.{numberOf, tickedOf, freshClock}
 use Rattle.states.specs.Names.{READY, WARN}
-use Rattle.ptc.specs.declared.counts.Counts.{Counts}
-use Rattle.ptc.specs.Counts.{noCounts}
+use Rattle.counts.specs.declared.Counts.{Counts}
+use Rattle.counts.specs.Counts.{noCounts}
 use Rattle.board.specs.declared.Board.{Board}
 use Rattle.ptc.specs.Fresh.{freshPtc}
 use Rattle.runup.specs.Crossings.{codesUnder, crossingWith, tells, later, started}
@@ -75,7 +75,7 @@ abbrev pub twoInGap : Counts
 twoInGap = record {
   requested = 4;
   accepted = 2;
-  lost = record { state = 0; slot = 0; gap = 2; cal = 0; throttle = 0 };
+  lost = record { state = 0; slot = 0; gap = 2; cal = 0; throttle = 0; rules = record { first = 0; second = 0; third = 0; fourth = 0 } };
   cal = record { requested = 0; accepted = 0; lost = 0 };
 }
 

@@ -1,4 +1,4 @@
--- Document 01, "Report": the keys of the report's lines, in their order.
+-- Document 01, "Report", and document 02, P5: the keys of the report's lines, in their order.
 use Prim.Native.Nat.{ℕ}
 use mathlib.Core.List.{List, [], _∷_}
 use Rattle.text.specs.Bytes.{bytes}
@@ -21,6 +21,10 @@ blockKeys =
     ∷ bytes "lost_gap"
     ∷ bytes "lost_cal"
     ∷ bytes "lost_throttle"
+    ∷ bytes "lost_r1"
+    ∷ bytes "lost_r2"
+    ∷ bytes "lost_r3"
+    ∷ bytes "lost_r4"
     ∷ bytes "cal_requested"
     ∷ bytes "cal_accepted"
     ∷ bytes "cal_lost"

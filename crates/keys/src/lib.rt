@@ -14,7 +14,7 @@ ghost use Rattle.keys.specs.Keys.{keys, keyAt, keyCount, lineMost};
 ghost use Rattle.keys.specs.support.Places.{startOf};
 ghost use Rattle.keys.specs.support.Spans.{SpanIs};
 
-const KEYS: [u8; 1457] = *b"edition=\
+const KEYS: [u8; 1489] = *b"edition=\
     orbit=gap_low=gap_high=\
     r1_gap=r2_period=r2_norm=r2_low=r3_period=r3_norm=r3_low=r4_period=r4_norm=r4_low=\
     ignore_disc=ignore_bad=settle_resync=settle_hard=recover_resync=recover_hard=\
@@ -35,10 +35,11 @@ const KEYS: [u8; 1457] = *b"edition=\
     at_bc0=at_te=at_resync=at_hard=at_ec0=at_oc0=at_start=at_stop=at_gap=at_wte=at_cal=\
     crossings=orbit=bc_errors=holder=\
     ptc=state=requested=accepted=lost_state=lost_slot=lost_gap=lost_cal=lost_throttle=\
+    lost_r1=lost_r2=lost_r3=lost_r4=\
     cal_requested=cal_accepted=cal_lost=events=";
 
 // Where each key begins, and where the last ends.
-const STARTS: [usize; 178] = [
+const STARTS: [usize; 182] = [
     0,
     8,
     14,
@@ -213,10 +214,14 @@ const STARTS: [usize; 178] = [
     1391,
     1400,
     1414,
-    1428,
-    1441,
-    1450,
-    1457,
+    1422,
+    1430,
+    1438,
+    1446,
+    1460,
+    1473,
+    1482,
+    1489,
 ];
 
 // The part of `KEYS` that is one key with its `=`.

@@ -8,7 +8,7 @@ use Rattle.settings.specs.declared.Settings.{Settings}
 use Rattle.settings.specs.declared.names.Waits.{Waits}
 use Rattle.settings.specs.Names.{orbitOf, rulesOf, waitsOf}
 use Rattle.status.specs.Merge.{classes}
-use Rattle.throttle.specs.Rules.{free}
+use Rattle.throttle.specs.Rules.{refusedBy}
 use Rattle.ptc.specs.declared.Plan.{Plan}
 use Rattle.kit.specs.Kit.{slotsOf, planOf}
 
@@ -18,8 +18,8 @@ pub record View : Type 0 where
   pub waits : Waits
   -- controller k's plan
   pub plan : ℕ → Plan
-  -- whether a trigger is free: by the marks, the crossings done, and warning or not
-  pub free : List ℕ → ℕ → Bool → Bool
+  -- the first rule that refuses a trigger, 0 where it is free: by the marks, the crossings done, and warning or not
+  pub refused : List ℕ → ℕ → Bool → ℕ
   -- the classes of all eight by the believed codes
   pub classes : List ℕ → List ℕ
 
@@ -29,6 +29,6 @@ viewOf s = record {
   slots = slotsOf s;
   waits = waitsOf s;
   plan = planOf s;
-  free = free (rulesOf s);
+  refused = refusedBy (rulesOf s);
   classes = classes s;
 }

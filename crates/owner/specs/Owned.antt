@@ -7,7 +7,7 @@ use mathlib.Core.List.{List}
 use lib.ListN.{getD}
 use Rattle.settings.specs.declared.Settings.{Settings}
 use Rattle.settings.specs.Names.{gapOf}
-use Rattle.ptc.specs.Counts.{inGap}
+use Rattle.counts.specs.Counts.{inGap}
 use Rattle.records.specs.Records.{recAt, askedIn}
 use Rattle.kit.specs.Kit.{slotsOf}
 use Rattle.logbook.specs.Row.{rowAt, sentIn, calIn, sendsIn, triggersIn, runsIn}

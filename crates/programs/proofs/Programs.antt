@@ -26,7 +26,7 @@ use Rattle.editions.proofs.Standard.{standard-length}
 use Rattle.editions.proofs.RoundTrip.{accepted, in-order, text-of, text-accepted, text-back, text-reads-back, write-checks}
 use Rattle.editions.proofs.Opening.{edition-most}
 use Rattle.clock.specs.Turn.{nextFrom, takesOver, freshTurn}
-use Rattle.ptc.specs.Counts.{requestedOf}
+use Rattle.counts.specs.Counts.{requestedOf}
 use Rattle.ptc.specs.Crossing.{crossedOf}
 use Rattle.records.specs.Records.{askedIn, wellCrossing, wellCommand, well, crossingsIn}
 use Rattle.records.specs.Refusal.{recordsIn, refusalOf}
@@ -144,7 +144,7 @@ report-fits b room e =
     let way = if-yes (soundBoard b) _ BOARD DONE e (not-done BOARD (lit< tt)) in
     (way .0, room-yes (length (reportText b)) room (way .1))
 
-fresh-length : length (reportText fresh) ≡ 192
+fresh-length : length (reportText fresh) ≡ 232
 unfolding reportText commonKeys blockKeys controllerText blocksFrom lineText lineHead freshBoard freshTurn nextFrom takesOver tabulate standard
 fresh-length = refl
 

@@ -125,8 +125,8 @@ pub record WritesReport : Type 0 where
   pub accepts : (b : Board) (buffer : List ℕ) → soundBoard b ≡ true → length (reportText b) ≤ length buffer
       → reported b buffer ≡ record { answer = DONE; buffer = reportText b ++ drop (length (reportText b)) buffer }
   pub accepted : (b : Board) (buffer : List ℕ) → reported b buffer .answer ≡ DONE → (soundBoard b ≡ true) × (length (reportText b) ≤ length buffer)
-  pub just-fits : reported fresh (replicate 192 0) .answer ≡ DONE
-  pub no-room : reported fresh [] .answer ≡ ROOM 192
+  pub just-fits : reported fresh (replicate 232 0) .answer ≡ DONE
+  pub no-room : reported fresh [] .answer ≡ ROOM 232
   pub refused-settings : reported unsound [] .answer ≡ BOARD
 
 pub record NoEmptyProgram : Type 0 where

@@ -25,6 +25,7 @@ use Rattle.owner.proofs.Owner.{owner}
 use Rattle.windows.proofs.Windows.{windows}
 use Rattle.balance.proofs.Exact.{exact}
 use Rattle.balance.proofs.Balance.{balance}
+use Rattle.balance.proofs.Tuning.{tuning}
 use Rattle.promises.specs.WholeLog.{Promised, given, WholeLogs}
 
 -- the promises of a log that was run whole
@@ -36,6 +37,7 @@ kept-whole {s} {log} {buffer} t =
       exact = exact s log buffer t;
       balanced = balance s log buffer t .each;
       reported = balance s log buffer t .reported;
+      tuned = λ k low i c r. tuning s log (whole s log buffer .rows) k i c r;
     }
 
 module _ (s : Settings) (blocks : List Lent) (buffer : List ℕ) (ok : checked s ≡ DONE) (fits : AllFit blocks)

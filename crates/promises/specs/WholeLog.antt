@@ -1,6 +1,6 @@
 -- Demand 3 in one claim, about what the caller has in hand: the rows that the blocks gave one after the other, and the board that the
 -- last one handed back.
-use Prim.Native.Nat.{ℕ, _<_}
+use Prim.Native.Nat.{ℕ, _≤_, _<_}
 use mathlib.Core.Path.{_≡_}
 use mathlib.Core.Bool.{true}
 use mathlib.Core.List.{List}
@@ -17,15 +17,18 @@ use Rattle.owner.specs.Owned.{Owned}
 use Rattle.windows.specs.Windows.{Throttled, ruleAt, crossingRows}
 use Rattle.balance.specs.Exact.{Exact}
 use Rattle.balance.specs.Balanced.{Balanced, Reported}
+use Rattle.balance.specs.Tuning.{Tuning}
 
 -- of a log's rows and closing board, whatever they came from: each trigger is its owner's, no stretch holds too many, each request is
--- sent or lost for a cause that holds, the counts are those of the records and rows, and the report shows them
+-- sent or lost for a cause that holds, the counts are those of the records and rows, the report shows them, and a request that was lost to
+-- a rule would have been within the rules before it
 pub record Promised (s : Settings) (log rows : List ℕ) (closing : Board) : Type 0 where
   pub owned : Owned s log rows
   pub throttled : (r : ℕ) → r < 4 → Throttled (ruleAt s r) (crossingRows log rows (recordsIn log))
   pub exact : (k : ℕ) → k < 8 → (i : ℕ) → Crossing log i → Exact s log rows k i
   pub balanced : (k : ℕ) → k < 8 → Balanced s log rows closing k
   pub reported : Reported s log rows closing
+  pub tuned : (k : ℕ) → k < 8 → (i : ℕ) → Crossing log i → (r : ℕ) → 1 ≤ r → r ≤ 4 → Tuning s log rows k i r
 
 -- what the blocks give over the fresh board
 abbrev pub given : Settings → List Lent → Outcome

@@ -8,7 +8,7 @@ use native.Mathlib.Omega.{arith}
 use borrow.Author.Tests.{le-leb, leb-true, ne-eqb}
 use lib.Dec.{eqb}
 use Rattle.laws.specs.Base.{if}
-use Rattle.laws.proofs.Bools.{both, and-yes, one-le}
+use Rattle.laws.proofs.Bools.{both, and-yes, one-le, if-most}
 use Rattle.laws.proofs.Tests.{either, same-or-not}
 use Rattle.settings.specs.declared.names.Waits.{Waits}
 use Rattle.states.specs.Names.{running}
@@ -16,17 +16,17 @@ use Rattle.states.specs.Commands.{takes}
 use Rattle.states.specs.Moves.{movedOf}
 use Rattle.states.specs.Sound.{soundState, soundWaits}
 use Rattle.states.proofs.Keeps.{moved-sound, command-sound}
+use Rattle.counts.specs.Counts.{fateOf, noCounts}
+use Rattle.counts.specs.Sound.{soundCounts}
+use Rattle.counts.proofs.Balance.{counts-read, counted-sound, none-sound, fate-once}
 use Rattle.ptc.specs.declared.Ptc.{Ptc}
 use Rattle.ptc.specs.declared.Plan.{Plan}
 use Rattle.ptc.specs.declared.Scene.{Scene}
 use Rattle.ptc.specs.Cycle.{keptOf, openedOf, asksOf}
-use Rattle.ptc.specs.Counts.{fateOf, noCounts}
-use Rattle.ptc.specs.Crossing.{freeIn, eventsOf, crossedOf}
+use Rattle.ptc.specs.Crossing.{ruleIn, eventsOf, crossedOf}
 use Rattle.ptc.specs.Command.{armedPtc, ledPtc, commandedOf}
 use Rattle.ptc.specs.support.Room.{Room}
-use Rattle.ptc.specs.Sound.{soundCycle, soundCounts, soundPtc}
-use Rattle.ptc.proofs.Tallies.{if-zero-le}
-use Rattle.ptc.proofs.Balance.{counts-read, counted-sound, none-sound, fate-once}
+use Rattle.ptc.specs.Sound.{soundCycle, soundPtc}
 use Rattle.ptc.proofs.Cycles.{cycle-sound}
 
 -- the parts of the test
@@ -49,7 +49,7 @@ unfolding soundPtc
 make k own m p s = and-yes _ _ (s .stands) (and-yes _ _ (s .cycle) (and-yes _ _ (s .counts) (le-leb _ _ (s .events))))
 
 events-most : (step events m : ℕ) (sent cal : Bool) → events ≤ m → eventsOf step events sent cal ≤ m + 1
-events-most step events m sent cal h = omega (arith, if-zero-le (eqb step 7) events, one-le (sent || cal))
+events-most step events m sent cal h = omega (arith, if-most (eqb step 7) 0 events m (omega arith) h, one-le (sent || cal))
 
 -- the holder may be another one than before
 pub crossed-sound : (plan : Plan) (scene : Scene) (k class : ℕ) (asked own : Bool) (m : ℕ) (p : Ptc) → soundWaits (plan .waits) ≡ true
@@ -63,13 +63,14 @@ crossed-sound plan scene k class asked own m p w e =
     let move = movedOf at (plan .waits) k number class (p .state) (p .wait) in
     let cycle = openedOf at number now (keptOf (move .state) now (p .cycle)) in
     let asks = asksOf at number cycle in
-    let free = freeIn scene (move .state) in
-    let fate = fateOf (plan .gap) number (move .state) now cycle free in
+    let rule = ruleIn scene (move .state) in
+    let free = eqb rule 0 in
+    let fate = fateOf (plan .gap) number (move .state) now (eqb cycle 2) rule in
     make k now (m + 1) _
     (record {
       stands = moved-sound at (plan .waits) k number class (p .state) (p .wait) w (s .stands);
       cycle = cycle-sound at number own now (p .state) (move .state) (p .cycle) asks (s .cycle);
-      counts = counted-sound m asked fate asks free (p .counts) (fate-once (plan .gap) number (move .state) now cycle free) (s .counts);
+      counts = counted-sound m asked fate asks free (p .counts) (fate-once (plan .gap) number (move .state) now (eqb cycle 2) rule) (s .counts);
       events = events-most (move .code) (p .events) m (asked && eqb fate 0) (asks && free) (s .events);
     })
 

@@ -1,6 +1,4 @@
-pub mod Tallies
 pub mod Built
-pub mod Balance
 pub mod Cycles
 pub mod Keeps
 pub mod Triggers

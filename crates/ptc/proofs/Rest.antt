@@ -17,13 +17,13 @@ use Rattle.states.specs.Names.{running}
 use Rattle.states.specs.Moves.{movedOf, orbitCode}
 use Rattle.states.specs.support.Rest.{resting}
 use Rattle.states.proofs.Rest.{rest-moved}
+use Rattle.counts.specs.declared.Counts.{Counts}
+use Rattle.counts.specs.Counts.{fateOf, requestedOf, calibratedOf, countedOf}
 use Rattle.ptc.specs.declared.Ptc.{Ptc}
 use Rattle.ptc.specs.declared.Plan.{Plan}
 use Rattle.ptc.specs.declared.Scene.{Scene}
-use Rattle.ptc.specs.declared.counts.Counts.{Counts}
 use Rattle.ptc.specs.Cycle.{keptOf, openedOf, cycleCode, asksOf}
-use Rattle.ptc.specs.Counts.{fateOf, requestedOf, calibratedOf, countedOf}
-use Rattle.ptc.specs.Crossing.{freeIn, codeOf, crossedOf}
+use Rattle.ptc.specs.Crossing.{ruleIn, codeOf, crossedOf}
 use Rattle.ptc.specs.support.Rest.{atRest, restedOf}
 use Rattle.ptc.proofs.Cycles.{open-is-held}
 
@@ -97,7 +97,7 @@ unasked-scene plan a b k class asked p n h =
 
 -- the throttle is looked at in the state after the move alone
 pub moved-scene : (plan : Plan) (a b : Scene) (k class : ℕ) (asked : Bool) (p : Ptc) → a .number ≡ b .number → a .holder ≡ b .holder
-    → (let s = movedOf (plan .at) (plan .waits) k (a .number) class (p .state) (p .wait) .state in freeIn a s ≡ freeIn b s)
+    → (let s = movedOf (plan .at) (plan .waits) k (a .number) class (p .state) (p .wait) .state in ruleIn a s ≡ ruleIn b s)
     → crossedOf plan a k class asked p ≡ crossedOf plan b k class asked p
 unfolding crossedOf
 moved-scene plan a b k class asked p n h e = rw (← n, ← h, e)

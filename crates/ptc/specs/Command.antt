@@ -6,10 +6,10 @@ use Rattle.laws.specs.Base.{if}
 use Rattle.settings.specs.declared.names.Waits.{Waits}
 use Rattle.states.specs.Moves.{entryWait}
 use Rattle.states.specs.Commands.{START, CALIBRATE, takes, stateAfter}
+use Rattle.counts.specs.Counts.{noCounts}
 use Rattle.ptc.specs.declared.Ptc.{Ptc}
 use Rattle.ptc.specs.declared.Commanded.{Commanded}
 use Rattle.ptc.specs.Cycle.{NONE, ARMED}
-use Rattle.ptc.specs.Counts.{noCounts}
 
 -- CALIBRATE arms a cycle
 abbrev pub armedPtc : Ptc → Ptc

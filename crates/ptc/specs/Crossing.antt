@@ -5,16 +5,19 @@ use lib.Dec.{ltb, eqb}
 use Rattle.laws.specs.Base.{if, one}
 use Rattle.states.specs.Names.{WARN}
 use Rattle.states.specs.Moves.{movedOf, orbitCode}
+use Rattle.counts.specs.Counts.{SENT, fateOf, countedOf}
 use Rattle.ptc.specs.declared.Ptc.{Ptc}
 use Rattle.ptc.specs.declared.Plan.{Plan}
 use Rattle.ptc.specs.declared.Scene.{Scene}
 use Rattle.ptc.specs.declared.Crossed.{Crossed}
-use Rattle.ptc.specs.Cycle.{NONE, keptOf, openedOf, cycleCode, asksOf}
-use Rattle.ptc.specs.Counts.{SENT, fateOf, countedOf}
+use Rattle.ptc.specs.Cycle.{NONE, OPEN, keptOf, openedOf, cycleCode, asksOf}
 
--- READY uses normal limits, WARN low ones
+-- READY uses normal limits, WARN low ones: the first refusing rule, 0 where a trigger is free
+abbrev pub ruleIn : Scene → ℕ → ℕ
+ruleIn scene s = if (eqb s WARN) (scene .low) (scene .norm)
+
 abbrev pub freeIn : Scene → ℕ → Bool
-freeIn scene s = if (eqb s WARN) (scene .low) (scene .norm)
+freeIn scene s = eqb (ruleIn scene s) 0
 
 -- at one number one code is sent: by the move, in every state, or by the cycle
 abbrev pub codeOf : (move orbit cycle : ℕ) → ℕ
@@ -34,7 +37,7 @@ crossedOf plan scene k class asked p =
     let cycle = openedOf at number own kept in
     let asks = asksOf at number cycle in
     let free = freeIn scene (move .state) in
-    let fate = fateOf (plan .gap) number (move .state) own cycle free in
+    let fate = fateOf (plan .gap) number (move .state) own (eqb cycle OPEN) (ruleIn scene (move .state)) in
     let sent = asked && eqb fate SENT in
     let cal = asks && free in
     record {

@@ -1,5 +1,4 @@
 pub mod Cycle
-pub mod Counts
 pub mod Fresh
 pub mod Crossing
 pub mod Command

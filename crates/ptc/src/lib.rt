@@ -1,11 +1,9 @@
 // One partition controller: through a crossing, and under a command (document 01, "States", "Cycle and trigger").
-mod counts;
 mod cycle;
 mod sound;
 
-pub use counts::Calibrations;
-pub use counts::Counts;
-pub use counts::Lost;
+use counts::Counts;
+use cycle::OPEN;
 use cycle::asks_trigger;
 use cycle::cycle_code;
 use cycle::kept;
@@ -18,10 +16,10 @@ ghost use mathlib.Core.Bool.{_||_};
 ghost use Prim.Native.Nat.{_<_, _^_};
 ghost use lib.Dec.{eqb};
 ghost use Rattle.laws.specs.Base.{if};
-ghost use Rattle.ptc.specs.Counts.{noCounts};
+ghost use Rattle.counts.specs.Counts.{noCounts};
 ghost use Rattle.ptc.specs.support.Room.{Room};
 ghost use Rattle.ptc.specs.Fresh.{freshPtc};
-ghost use Rattle.ptc.specs.Crossing.{freeIn, codeOf, eventsOf, crossedOf};
+ghost use Rattle.ptc.specs.Crossing.{ruleIn, codeOf, eventsOf, crossedOf};
 ghost use Rattle.states.specs.Moves.{orbitCode};
 ghost use Rattle.ptc.specs.support.Rest.{atRest, restedOf};
 ghost use Rattle.ptc.specs.support.Times.{scheduleFrom, planFrom};
@@ -44,12 +42,12 @@ pub struct Plan {
     pub gap: Gap,
 }
 
-// What all eight see of a crossing: its number, the holder, and whether a trigger is free at normal and at low limits.
+// What all eight see of a crossing: its number, the holder, and which rule refuses a trigger at normal and at low limits, 0 where none does.
 pub struct Scene {
     pub number: u32,
     pub holder: u32,
-    pub norm: bool,
-    pub low: bool,
+    pub norm: u8,
+    pub low: u8,
 }
 
 // A controller after a crossing, and what it sent in it.
@@ -97,8 +95,8 @@ fn orbit_code_of(times: &[u32; 88], k: u32, number: u32) -> u8
 }
 
 impl Scene {
-    fn free_in(self, state: u8) -> bool
-        ensures { λ r. ⌜ r ≡ freeIn self state ⌝ }
+    fn rule_in(self, state: u8) -> u8
+        ensures { λ r. ⌜ r ≡ ruleIn self state ⌝ }
     {
         if state == 8 { self.low } else { self.norm }
     }
@@ -201,8 +199,9 @@ impl Ptc {
         let before = kept(step.state, own, self.cycle);
         let cycle = opened(at, number, own, before);
         let asks = asks_trigger(at, number, cycle);
-        let free = scene.free_in(step.state);
-        let fate = counts::fate(plan.gap, number, step.state, own, cycle, free);
+        let rule = scene.rule_in(step.state);
+        let free = rule == 0;
+        let fate = counts::fate(plan.gap, number, step.state, own, cycle == OPEN, rule);
         let sent = plain::both(asked, is_sent(fate));
         let cal = plain::both(asks, free);
         let counts = self.counts.counted(asked, fate, asks, free);
@@ -241,15 +240,8 @@ impl Ptc {
         ensures { λ r. ⌜ r ≡ restedOf gap code scene k asked self ⌝ }
     {
         let number = scene.number;
-        let free = scene.free_in(self.state);
-        let fate = counts::fate(
-            gap,
-            number,
-            self.state,
-            k == scene.holder,
-            cycle::NONE,
-            free,
-        );
+        let rule = scene.rule_in(self.state);
+        let fate = counts::fate(gap, number, self.state, k == scene.holder, false, rule);
         let sent = plain::both(asked, is_sent(fate));
         let counts = self.counts.with_request(asked, fate);
         let ptc = Ptc {

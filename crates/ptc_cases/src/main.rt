@@ -1,8 +1,8 @@
 // Walks one controller through every state with every merged class and with every command, and prints where it goes.
 use cases::say;
 use cases::say_number;
+use counts::Counts;
 use kit::Kit;
-use ptc::Counts;
 use ptc::Ptc;
 use ptc::Scene;
 use settings::Settings;
@@ -26,8 +26,8 @@ fn say_crossing(k: u32, state: u8, wait: u32, number: u32, class: u8) {
     let scene = Scene {
         number: number,
         holder: 8,
-        norm: true,
-        low: true,
+        norm: 0,
+        low: 0,
     };
     let kit = Kit::of(Settings::standard());
     let p = in_state(state, wait, 0);

@@ -1,4 +1,4 @@
--- A sound board's report has at most 2,545 bytes: no value in it has more than 13 digits, since every count is within the board's life.
+-- A sound board's report has at most 3,249 bytes: no value in it has more than 13 digits, since every count is within the board's life.
 -- Lines by induction on keys and values; blocks by induction on the controllers; the keys' lengths are computed.
 use mathlib.Core.Path.{_≡_}
 use mathlib.Core.Bool.{true}
@@ -19,8 +19,8 @@ use Rattle.settings.specs.declared.Settings.{Settings}
 use Rattle.settings.specs.Names.{slotOf}
 use Rattle.states.specs.Sound.{soundState}
 use Rattle.clock.proofs.Keeps.{holder-most}
+use Rattle.counts.proofs.Balance.{counts-read}
 use Rattle.ptc.specs.declared.Ptc.{Ptc}
-use Rattle.ptc.proofs.Balance.{counts-read}
 use Rattle.ptc.proofs.Keeps.{sound-read}
 use Rattle.eight.specs.Eight.{soundAt, soundEight}
 use Rattle.board.specs.declared.Board.{Board}
@@ -58,15 +58,15 @@ module _ (holder m k : ℕ) (p : Ptc) (life : m < 2 ^ 41) (known : k < 8) (sound
       let stands = state-most k (p .state) (p .wait) (s .stands) in
       omega arith
 
-  block-most : (s : Settings) → length (controllerText s k p) ≤ 307
+  block-most : (s : Settings) → length (controllerText s k p) ≤ 395
   unfolding controllerText blockKeys lineHead
   block-most s =
-      if-has (λ (t : List ℕ). length t ≤ 307) (ltb 0 (slotOf s k)) _ _
+      if-has (λ (t : List ℕ). length t ≤ 395) (ltb 0 (slotOf s k)) _ _
       (λ e. omega (arith, lines-most blockKeys (blockValues k p) block-short))
       (λ e. omega arith)
 
 blocks-most : (s : Settings) (holder m k : ℕ) (ps : List Ptc) → m < 2 ^ 41 → k + length ps ≤ 8 → allI (soundAt holder m) k ps ≡ true
-    → length (blocksFrom s k ps) ≤ 307 * length ps
+    → length (blocksFrom s k ps) ≤ 395 * length ps
 unfolding blocksFrom allI
 blocks-most s holder m k [] life known e = omega arith
 blocks-most s holder m k (p ∷ ps) life known e =
@@ -76,7 +76,7 @@ blocks-most s holder m k (p ∷ ps) life known e =
 
 -- ---- the whole
 
-text-most : (b : Board) → length (b .ptcs) ≡ 8 → soundBoard b ≡ true → length (reportText b) ≤ 2545
+text-most : (b : Board) → length (b .ptcs) ≡ 8 → soundBoard b ≡ true → length (reportText b) ≤ 3249
 unfolding reportText commonKeys lineHead soundEight
 text-most b long sound =
     let parts = sound-parts b sound in

@@ -18,7 +18,7 @@ use Rattle.board.specs.Sound.{soundBoard}
 abbrev pub commonValues : Board → List ℕ
 commonValues b = b .clock .crossings ∷ b .clock .orbits ∷ b .clock .errors ∷ b .turn .holder ∷ []
 
--- ptc, state, the ten counts since START, events
+-- ptc, state, the fourteen counts since START (document 02, P5: lost_throttle by its rules), events
 abbrev pub blockValues : ℕ → Ptc → List ℕ
 blockValues k p =
     k
@@ -30,6 +30,10 @@ blockValues k p =
     ∷ p .counts .lost .gap
     ∷ p .counts .lost .cal
     ∷ p .counts .lost .throttle
+    ∷ p .counts .lost .rules .first
+    ∷ p .counts .lost .rules .second
+    ∷ p .counts .lost .rules .third
+    ∷ p .counts .lost .rules .fourth
     ∷ p .counts .cal .requested
     ∷ p .counts .cal .accepted
     ∷ p .counts .cal .lost

@@ -1,4 +1,4 @@
-// The report's text (document 01, "Report").
+// The report's text (document 01, "Report"; document 02, P5).
 use answer::Answer;
 use board::Board;
 use ptc::Ptc;
@@ -27,7 +27,7 @@ fn common_values(b: Board) -> [u64; 4]
     ]
 }
 
-fn block_values(k: usize, p: Ptc) -> [u64; 13]
+fn block_values(k: usize, p: Ptc) -> [u64; 17]
     ensures { λ r. ⌜ r ≡ blockValues k p ⌝ }
 {
     let c = p.counts;
@@ -41,6 +41,10 @@ fn block_values(k: usize, p: Ptc) -> [u64; 13]
         c.lost.gap,
         c.lost.cal,
         c.lost.throttle,
+        c.lost.rules.first,
+        c.lost.rules.second,
+        c.lost.rules.third,
+        c.lost.rules.fourth,
         c.cal.requested,
         c.cal.accepted,
         c.cal.lost,
@@ -59,7 +63,7 @@ fn has_block(s: Settings, k: usize) -> bool
 // How long the block of a controller is.
 fn block_length(s: Settings, k: usize, p: Ptc) -> usize
     requires { ⌜ k < 8 ⌝ }
-    ensures { λ r. ⌜ (r ≡ length (controllerText s k p)) × (r ≤ 65536) ⌝ }
+    ensures { λ r. ⌜ (r ≡ length (controllerText s k p)) × (r ≤ 131072) ⌝ }
 {
     if !has_block(s, k) {
         return 0;

@@ -6,13 +6,14 @@ use Rattle.settings.specs.Standard.{standard}
 use Rattle.steady.specs.Steady.{steady, steadyByte, believedOf}
 use Rattle.steady.specs.Held.{nextHeld, freshHeld}
 use Rattle.throttle.specs.Marks.{putBit, marked, passed}
-use Rattle.throttle.specs.Windows.{countOf, freeAfter}
+use Rattle.throttle.specs.Rules.{refuser}
+use Rattle.throttle.specs.Windows.{countOf}
 use Rattle.clock.specs.Clock.{tickedOf}
 use Rattle.clock.specs.Turn.{nextFrom, takesOver, fallenOf, turnedOf, freshTurn}
 use Rattle.states.specs.Moves.{moveOf, entryWait, movedOf, orbitCode}
 use Rattle.states.specs.Commands.{takes, stateAfter}
 use Rattle.ptc.specs.Command.{commandedOf}
-use Rattle.ptc.specs.Counts.{fateOf, lostTo, requestedOf, calibratedOf}
+use Rattle.counts.specs.Counts.{fateOf, ruledTo, lostTo, requestedOf, calibratedOf}
 use Rattle.ptc.specs.Crossing.{crossedOf}
 use Rattle.ptc.specs.Cycle.{keptOf, openedOf, cycleCode, asksOf}
 use Rattle.records.specs.Records.{askedIn}
@@ -25,5 +26,5 @@ use Rattle.board.specs.Fresh.{freshBoard}
 use Rattle.runup.proofs.Walk.{walk, walked}
 
 unfoldable pub opened : ℕ
-unfolding walk walked allB mapI tabulate standard steady steadyByte believedOf nextHeld freshHeld putBit marked passed countOf freeAfter tickedOf nextFrom takesOver fallenOf turnedOf freshTurn moveOf entryWait movedOf orbitCode takes stateAfter commandedOf fateOf lostTo requestedOf calibratedOf crossedOf keptOf openedOf cycleCode asksOf askedIn rowByte crossingRow carries turnBy sceneBy crossedBy actOf byteOf clockOf commandBy commandedBy stepped freshBoard
+unfolding walk walked allB mapI tabulate standard steady steadyByte believedOf nextHeld freshHeld putBit marked passed countOf refuser tickedOf nextFrom takesOver fallenOf turnedOf freshTurn moveOf entryWait movedOf orbitCode takes stateAfter commandedOf fateOf ruledTo lostTo requestedOf calibratedOf crossedOf keptOf openedOf cycleCode asksOf askedIn rowByte crossingRow carries turnBy sceneBy crossedBy actOf byteOf clockOf commandBy commandedBy stepped freshBoard
 opened = 0

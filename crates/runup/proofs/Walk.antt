@@ -17,10 +17,10 @@ use Rattle.status.specs.Merge.{memberBy, voteBy, mergedBy, classes, classesBy}
 use Rattle.steady.specs.declared.Held.{Held}
 use Rattle.steady.specs.Steady.{steady, steadyByte, believedOf}
 use Rattle.steady.specs.Held.{nextHeld}
-use Rattle.throttle.specs.Windows.{Tells, freeAfter}
+use Rattle.throttle.specs.Windows.{Tells, refusedAfter}
 use Rattle.throttle.proofs.Ring.{passed-long}
 use Rattle.throttle.proofs.Windows.{tells-on}
-use Rattle.throttle.proofs.Instances.{Near, free-told}
+use Rattle.throttle.proofs.Instances.{Near, refused-told}
 use Rattle.clock.specs.Clock.{numberOf, tickedOf}
 use Rattle.ptc.specs.declared.Ptc.{Ptc}
 use Rattle.ptc.specs.declared.Plan.{Plan}
@@ -56,8 +56,8 @@ classesNow past warn = replicate 8 (if (believedNow past warn) warning ready)
 -- what all eight see of a crossing without a marker
 abbrev sceneAfter : Board → Past → Scene
 sceneAfter b past =
-    let free = freeAfter (rulesOf (b .settings)) (past .marks) in
-    record { number = numberOf (b .clock) false; holder = turnIn b false .holder; norm = free false; low = free true }
+    let refused = refusedAfter (rulesOf (b .settings)) (past .marks) in
+    record { number = numberOf (b .clock) false; holder = turnIn b false .holder; norm = refused false; low = refused true }
 
 -- of such a crossing, by what all eight see, their classes and the requests: f of each, the row, the next board and what is kept after it
 abbrev eightSeeing : {A : Type 0} → (Plan → Scene → List ℕ → ℕ → ℕ → Ptc → A) → Board → Scene → List ℕ → ℕ → List A
@@ -108,7 +108,7 @@ module _ {b : Board} {past : Past} (f : Follows b past) (warn : Bool) (requests 
   unfolding sceneBy
   scene-same =
       let near : Near (rulesOf (b .settings)) = rw (f .std) near-standard in
-      let same = free-told (rulesOf (b .settings)) near (b .marks) (b .clock .crossings) (past .marks) (f .told) in
+      let same = refused-told (rulesOf (b .settings)) near (b .marks) (b .clock .crossings) (past .marks) (f .told) in
       rw (same false, same true)
 
   held-same : heldIn b (crossingWith warn requests) ≡ heldNow past warn

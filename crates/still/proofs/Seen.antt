@@ -14,7 +14,7 @@ use Rattle.laws.proofs.Tests.{either, same-or-not}
 use Rattle.settings.specs.declared.names.Gap.{Gap}
 use Rattle.settings.specs.declared.names.Rules.{Rules}
 use Rattle.settings.specs.declared.names.Waits.{Waits}
-use Rattle.throttle.specs.Rules.{free}
+use Rattle.throttle.specs.Rules.{refusedBy}
 use Rattle.clock.specs.declared.Clock.{Clock}
 use Rattle.clock.specs.Clock.{numberOf}
 use Rattle.states.specs.Names.{WARN}
@@ -22,7 +22,7 @@ use Rattle.states.specs.Moves.{movedOf}
 use Rattle.ptc.specs.declared.Ptc.{Ptc}
 use Rattle.ptc.specs.declared.Plan.{Plan}
 use Rattle.ptc.specs.declared.Scene.{Scene}
-use Rattle.ptc.specs.Crossing.{freeIn}
+use Rattle.ptc.specs.Crossing.{ruleIn}
 use Rattle.ptc.specs.support.Times.{scheduleFrom, planFrom}
 use Rattle.ptc.specs.Fresh.{freshPtc}
 use Rattle.ptc.proofs.Rest.{unasked-scene, moved-scene}
@@ -32,7 +32,7 @@ use Rattle.still.specs.declared.Sight.{Sight}
 use Rattle.still.specs.support.Sight.{sceneFor}
 
 -- either limit, by the state
-by-state : (f : Bool → Bool) (s : ℕ) → if (eqb s WARN) (f (eqb s WARN)) (f (eqb s WARN)) ≡ if (eqb s WARN) (f true) (f false)
+by-state : (f : Bool → ℕ) (s : ℕ) → if (eqb s WARN) (f (eqb s WARN)) (f (eqb s WARN)) ≡ if (eqb s WARN) (f true) (f false)
 by-state f s = ⊎-elim (λ (e : eqb s WARN ≡ true). rw e) (λ (e : eqb s WARN ≡ false). rw e) (either (eqb s WARN))
 
 neither : (a b : Bool) → a || b ≡ false → (a ≡ false) × (b ≡ false)
@@ -54,8 +54,8 @@ module _ (times : List ℕ) (waits : Waits) (gap : Gap) (rules : Rules) (sight :
   wholeScene = record {
     number = numberOf clock (sight .marker);
     holder = sight .turn .holder;
-    norm = free rules marks (clock .crossings) false;
-    low = free rules marks (clock .crossings) true;
+    norm = refusedBy rules marks (clock .crossings) false;
+    low = refusedBy rules marks (clock .crossings) true;
   }
 
   numbers : seen .number ≡ wholeScene .number
@@ -87,9 +87,9 @@ module _ (times : List ℕ) (waits : Waits) (gap : Gap) (rules : Rules) (sight :
       movedOf (scheduleFrom times x) waits x (numberOf clock (sight .marker)) (getD (sight .classes) y 0) (getD ps y freshPtc .state) (getD ps y freshPtc .wait) .state in
       ap (λ (x : ℕ). to x (x % 8)) (sym e) ∙ ap (to k) z
 
-  own-free : (k : ℕ) → k ≡ sight .turn .holder → k < 8 → asks ≡ true → freeIn seen (movesTo k) ≡ freeIn wholeScene (movesTo k)
+  own-rule : (k : ℕ) → k ≡ sight .turn .holder → k < 8 → asks ≡ true → ruleIn seen (movesTo k) ≡ ruleIn wholeScene (movesTo k)
   unfolding sceneFor asks
-  own-free k e h a = rw (a, same-move k e h) (by-state (λ w. free rules marks (clock .crossings) w) (movesTo k))
+  own-rule k e h a = rw (a, same-move k e h) (by-state (λ w. refusedBy rules marks (clock .crossings) w) (movesTo k))
 
   idle : (k : ℕ) → k ≡ sight .turn .holder → k < 8 → asks ≡ false → (askedIn (sight .requests) k ≡ false) × (getD ps k freshPtc .cycle ≡ 0)
   unfolding asks
@@ -106,7 +106,7 @@ module _ (times : List ℕ) (waits : Waits) (gap : Gap) (rules : Rules) (sight :
       ⊎-elim
       (λ (e : k ≡ sight .turn .holder).
       ⊎-elim
-      (λ (t : asks ≡ true). moved-scene (plans k) seen wholeScene k (getD (sight .classes) k 0) _ (getD ps k freshPtc) numbers holders (own-free k e h t))
+      (λ (t : asks ≡ true). moved-scene (plans k) seen wholeScene k (getD (sight .classes) k 0) _ (getD ps k freshPtc) numbers holders (own-rule k e h t))
       (λ (f : asks ≡ false). unasked-scene (plans k) seen wholeScene k _ _ _ numbers holders (inr (idle k e h f)))
       (either asks))
       (λ (n : k ≡ sight .turn .holder → ⊥). unasked-scene (plans k) seen wholeScene k _ _ _ numbers holders (inl (ne-eqb k _ n)))

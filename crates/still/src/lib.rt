@@ -167,18 +167,18 @@ impl Sight {
     {
         let number = clock.number(self.marker);
         let holder = self.turn.holder;
-        let mut free = false;
+        let mut rule = 0;
         if asks(p, holder, self.requests) {
             let h = (holder % 8) as usize;
             let classes = self.classes;
             let warn = is_warned(p, times, waits, number, holder, classes[h]);
-            free = throttle::free(marks, rules, clock.crossings, warn);
+            rule = throttle::refused_by(marks, rules, clock.crossings, warn);
         }
         Scene {
             number: number,
             holder: holder,
-            norm: free,
-            low: free,
+            norm: rule,
+            low: rule,
         }
     }
 }

@@ -1,19 +1,19 @@
 -- Rules 1 to 4 as instances of the window fact: what `free` allowed is what each rule keeps, under normal limits and under low ones.
 -- The ring's count is the list's, so a rule that allowed a mark is the clause of `Kept` for it.
-use mathlib.Core.Path.{_≡_}
+use mathlib.Core.Path.{_≡_, sym, _∙_}
 use mathlib.Core.Bool.{Bool, true, false}
 use mathlib.Core.List.{List, _∷_}
 use Prim.Native.Nat.{ℕ, _+_, _-_, _≤_, _<_}
 use native.Mathlib.Omega.{arith}
 use borrow.Author.Tests.{leb-true}
 use lib.ListN.{getD, drop}
-use Rattle.laws.specs.Base.{allB}
 use Rattle.laws.proofs.All.{all-get}
 use Rattle.settings.specs.declared.names.Rule.{Rule}
 use Rattle.settings.specs.declared.names.Rules.{Rules}
 use Rattle.throttle.specs.Marks.{among}
-use Rattle.throttle.specs.Rules.{rulesList, spacingRule, limitOf, allows, free}
-use Rattle.throttle.specs.Windows.{countOf, Kept, Tells, allowsAfter, freeAfter}
+use Rattle.throttle.specs.Rules.{rulesList, spacingRule, limitOf, allows, refusedBy, free}
+use Rattle.throttle.specs.Windows.{countOf, Kept, Tells, allowsAfter, refusedAfter}
+use Rattle.throttle.proofs.Refuser.{refuser-same, refuser-none}
 use Rattle.throttle.proofs.Windows.{window, window-low, tells-count}
 
 -- a rule as the window fact has it, and checked settings have it
@@ -25,9 +25,8 @@ pub record Plain (r : Rule) : Type 0 where
 -- a free trigger is allowed by each of the four rules
 pub free-allows : (r : Rules) (ws : List ℕ) (n : ℕ) (warn : Bool) → free r ws n warn ≡ true
     → (k : ℕ) → k < 4 → allows ws n warn (getD (rulesList r) k (spacingRule r)) ≡ true
-unfolding free
 free-allows r ws n warn e k h =
-    all-get (allows ws n warn) (rulesList r) k (spacingRule r) e h
+    all-get (allows ws n warn) (rulesList r) k (spacingRule r) (sym (refuser-none (allows ws n warn) 1 (rulesList r) (omega arith)) ∙ e) h
 
 -- ---- the rules over a ring are the rules over a list that tells the same
 
@@ -42,14 +41,15 @@ pub record Near (r : Rules) : Type 0 where
   pub three : r .third .period ≤ 2047
   pub four : r .fourth .period ≤ 2047
 
-pub free-told : (r : Rules) → Near r → (ws : List ℕ) (n : ℕ) (ms : List ℕ) → Tells ws n ms → (warn : Bool) → free r ws n warn ≡ freeAfter r ms warn
-unfolding free freeAfter allB
-free-told r near ws n ms t warn =
-    rw (
+-- the same rule refuses
+pub refused-told : (r : Rules) → Near r → (ws : List ℕ) (n : ℕ) (ms : List ℕ) → Tells ws n ms → (warn : Bool) → refusedBy r ws n warn ≡ refusedAfter r ms warn
+refused-told r near ws n ms t warn =
+    refuser-same (allows ws n warn) (allowsAfter ms warn) 1 (rulesList r) (
       allows-told ws n ms t warn (spacingRule r) (near .one),
-      allows-told ws n ms t warn (r .second) (near .two),
-      allows-told ws n ms t warn (r .third) (near .three),
-      allows-told ws n ms t warn (r .fourth) (near .four),
+      (
+        allows-told ws n ms t warn (r .second) (near .two),
+        (allows-told ws n ms t warn (r .third) (near .three), (allows-told ws n ms t warn (r .fourth) (near .four), tt)),
+      ),
     )
 
 -- ---- what a rule keeps

@@ -1,9 +1,9 @@
 -- Document 01, "Throttle": the four rules, each a period of crossings and the triggers that it may hold, this crossing's among them.
-use Prim.Native.Nat.{ℕ, _+_, _-_, _^_, _<_}
+use Prim.Native.Nat.{ℕ, suc, _+_, _-_, _^_, _<_}
 use mathlib.Core.Bool.{Bool}
 use mathlib.Core.List.{List, [], _∷_}
-use lib.Dec.{leb}
-use Rattle.laws.specs.Base.{if, allB}
+use lib.Dec.{leb, eqb}
+use Rattle.laws.specs.Base.{if}
 use Rattle.settings.specs.declared.names.Rule.{Rule}
 use Rattle.settings.specs.declared.names.Rules.{Rules}
 use Rattle.throttle.specs.Marks.{among}
@@ -23,9 +23,18 @@ limitOf r warn = if warn (r .low) (r .norm)
 unfoldable pub allows : (ws : List ℕ) (n : ℕ) (warn : Bool) (r : Rule) → Bool
 allows ws n warn r = leb (among ws n (r .period - 1) + 1) (limitOf r warn)
 
+-- the number of the first rule that fails the test, the list's first being number n; 0 where none fails
+unfoldable pub refuser : (Rule → Bool) → ℕ → List Rule → ℕ
+refuser allow n [] = 0
+refuser allow n (r ∷ rules) = if (allow r) (refuser allow (suc n) rules) n
+
+-- document 02, P5: the throttle's answer is the first refusing rule, 1 to 4; 0 says free
+abbrev pub refusedBy : (r : Rules) (ws : List ℕ) (n : ℕ) (warn : Bool) → ℕ
+refusedBy r ws n warn = refuser (allows ws n warn) 1 (rulesList r)
+
 -- a trigger is free: not refused by any of the four rules
-unfoldable pub free : (r : Rules) (ws : List ℕ) (n : ℕ) (warn : Bool) → Bool
-free r ws n warn = allB (allows ws n warn) (rulesList r)
+abbrev pub free : (r : Rules) (ws : List ℕ) (n : ℕ) (warn : Bool) → Bool
+free r ws n warn = eqb (refusedBy r ws n warn) 0
 
 -- what of checked settings the arithmetic needs
 pub record Sensible (r : Rules) : Type 0 where

@@ -3,13 +3,12 @@ use Prim.Native.Nat.{ℕ, zero, suc, _+_, _-_, _≤_, _<_}
 use mathlib.Core.Path.{_≡_}
 use mathlib.Core.Bool.{Bool}
 use mathlib.Core.List.{List, [], _∷_}
-use lib.Dec.{leb}
+use lib.Dec.{leb, eqb}
 use lib.ListN.{getD}
-use Rattle.laws.specs.Base.{allB}
 use Rattle.settings.specs.declared.names.Rule.{Rule}
 use Rattle.settings.specs.declared.names.Rules.{Rules}
 use Rattle.throttle.specs.Marks.{markBack}
-use Rattle.throttle.specs.Rules.{rulesList, limitOf}
+use Rattle.throttle.specs.Rules.{rulesList, limitOf, refuser}
 
 -- the marks among the newest k
 unfoldable pub countOf : ℕ → List ℕ → ℕ
@@ -31,6 +30,9 @@ pub record Tells (ws : List ℕ) (n : ℕ) (ms : List ℕ) : Type 0 where
 abbrev pub allowsAfter : List ℕ → Bool → Rule → Bool
 allowsAfter ms warn r = leb (countOf (r .period - 1) ms + 1) (limitOf r warn)
 
--- a trigger is free: not refused by any of the four rules
-unfoldable pub freeAfter : Rules → List ℕ → Bool → Bool
-freeAfter r ms warn = allB (allowsAfter ms warn) (rulesList r)
+-- document 02, P5, over a list: the first refusing rule, 1 to 4; 0 says free
+abbrev pub refusedAfter : Rules → List ℕ → Bool → ℕ
+refusedAfter r ms warn = refuser (allowsAfter ms warn) 1 (rulesList r)
+
+abbrev pub freeAfter : Rules → List ℕ → Bool → Bool
+freeAfter r ms warn = eqb (refusedAfter r ms warn) 0

@@ -8,7 +8,7 @@ ghost use lib.Dec.{leb};
 ghost use lib.Count.{onesIn};
 ghost use Rattle.throttle.specs.Marks.{bitAt, putBit, markAt, marked, passed, among};
 ghost use Rattle.throttle.specs.Sound.{soundMarks};
-ghost use Rattle.throttle.specs.Rules.{limitOf, Sensible, free};
+ghost use Rattle.throttle.specs.Rules.{limitOf, Sensible, refusedBy};
 
 fn bit(w: u64, k: u64) -> u64
     requires { ⌜ k < 64 ⌝ }
@@ -142,15 +142,11 @@ impl Counted {
     }
 }
 
-// Whether a trigger is free after n crossings, by the low limits under warning. The first rule that refuses decides.
-pub fn free(marks: &[u64; 32], rules: Rules, n: u64, warn: bool) -> bool
+// The first of the four rules that refuses a trigger after n crossings, by the low limits under warning; 0 where none does.
+pub fn refused_by(marks: &[u64; 32], rules: Rules, n: u64, warn: bool) -> u8
     requires { ⌜ Sensible rules ⌝ }
-    ensures { λ r. ⌜ r ≡ free rules (now (marks .entry)) n warn ⌝ }
+    ensures { λ r. ⌜ r ≡ refusedBy rules (now (marks .entry)) n warn ⌝ }
 {
-    // A limit of 0 refuses whatever is counted: so text that sends nothing under warning counts nothing there.
-    if limit(rules.second, warn) == 0 {
-        return false;
-    }
     let spacing = Rule {
         period: rules.spacing + 1,
         norm: 1,
@@ -162,17 +158,23 @@ pub fn free(marks: &[u64; 32], rules: Rules, n: u64, warn: bool) -> bool
     };
     let first = none.on(marks, n, spacing);
     if !first.is_within(spacing, warn) {
-        return false;
+        return 1;
+    }
+    if limit(rules.second, warn) == 0 {
+        return 2; // Whatever is counted: text that sends nothing under warning has it so.
     }
     let second = first.on(marks, n, rules.second);
     if !second.is_within(rules.second, warn) {
-        return false;
+        return 2;
     }
     let third = second.on(marks, n, rules.third);
     if !third.is_within(rules.third, warn) {
-        return false;
+        return 3;
     }
-    third
-        .on(marks, n, rules.fourth)
-        .is_within(rules.fourth, warn)
+    let fourth = third.on(marks, n, rules.fourth);
+    if fourth.is_within(rules.fourth, warn) {
+        0
+    } else {
+        4
+    }
 }

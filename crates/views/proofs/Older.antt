@@ -16,7 +16,7 @@ use Rattle.settings.specs.declared.Settings.{Settings}
 use Rattle.settings.specs.declared.names.Schedule.{Schedule}
 use Rattle.settings.specs.Names.{after, timesAt, scheduleOf, partOf}
 use Rattle.status.specs.Merge.{classesBy}
-use Rattle.throttle.specs.Rules.{free}
+use Rattle.throttle.specs.Rules.{refusedBy}
 use Rattle.editions.specs.Read.{sources, laidOut, warnBlocks, settled}
 use Rattle.editions.specs.support.Tables.{sourceOf}
 use Rattle.editions.proofs.Known.{Known, known}
@@ -31,7 +31,7 @@ plainView on schedule part = record {
   slots = tabulate (λ k. on (21 + k)) 0 8;
   waits = waitsOn on;
   plan = λ k. record { at = schedule k; waits = waitsOn on; gap = gapOn on };
-  free = free (rulesOn on);
+  refused = refusedBy (rulesOn on);
   classes = classesBy part (ignoresOn on);
 }
 

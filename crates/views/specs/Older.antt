@@ -1,17 +1,18 @@
 -- The desk that still had `warn_blocks`, in the words of an older text: what it goes by, from the numbers on the text's own lines. With a
 -- text of the first edition it is document 01's desk, and one schedule serves all eight; with one of the second, that of document 02, P2.
 use Prim.Native.Nat.{ℕ, _+_, _-_, _*_, _%_}
-use mathlib.Core.Bool.{Bool, not, _&&_}
+use mathlib.Core.Bool.{Bool, _&&_}
 use mathlib.Core.List.{List, [], _∷_}
 use lib.Dec.{eqb}
 use lib.ListN.{getD}
+use Rattle.laws.specs.Base.{if}
 use Rattle.settings.specs.declared.names.Gap.{Gap}
 use Rattle.settings.specs.declared.names.Rules.{Rules}
 use Rattle.settings.specs.declared.names.Ignores.{Ignores}
 use Rattle.settings.specs.declared.names.Waits.{Waits}
 use Rattle.settings.specs.declared.names.Schedule.{Schedule}
 use Rattle.status.specs.Merge.{classesBy}
-use Rattle.throttle.specs.Rules.{free}
+use Rattle.throttle.specs.Rules.{refusedBy}
 use Rattle.kit.specs.View.{View}
 
 -- ---- by document 01's numbers of the lines, `on` being the number that stands there
@@ -29,9 +30,12 @@ rulesOn on = record {
   fourth = record { period = on 11; norm = on 12; low = on 13 };
 }
 
--- 14 warn_blocks. Document 01, "Throttle": where it is 1, every trigger is refused under warning
-abbrev pub freeOn : (ℕ → ℕ) → List ℕ → ℕ → Bool → Bool
-freeOn on ws n warn = not (warn && eqb (on 14) 1) && free (rulesOn on) ws n warn
+-- 14 warn_blocks. Document 01, "Throttle": where it is 1, every trigger is refused under warning: by rule 1 where it does, else by rule 2
+-- (document 02, P5, which rule refused)
+abbrev pub refusedOn : (ℕ → ℕ) → List ℕ → ℕ → Bool → ℕ
+refusedOn on ws n warn =
+    let rule = refusedBy (rulesOn on) ws n warn in
+    if (warn && eqb (on 14) 1) (if (eqb rule 1) 1 2) rule
 
 -- 15 ignore_disc, 16 ignore_bad
 abbrev pub ignoresOn : (ℕ → ℕ) → Ignores
@@ -64,7 +68,7 @@ olderView on schedule part = record {
   slots = on 21 ∷ on 22 ∷ on 23 ∷ on 24 ∷ on 25 ∷ on 26 ∷ on 27 ∷ on 28 ∷ [];
   waits = waitsOn on;
   plan = λ k. record { at = schedule k; waits = waitsOn on; gap = gapOn on };
-  free = freeOn on;
+  refused = refusedOn on;
   classes = classesBy part (ignoresOn on);
 }
 

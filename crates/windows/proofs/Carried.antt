@@ -15,10 +15,10 @@ use Rattle.laws.proofs.All.{all-get}
 use Rattle.laws.proofs.Over.{length-mapI}
 use Rattle.settings.specs.declared.Settings.{Settings}
 use Rattle.settings.specs.Names.{rulesOf}
-use Rattle.throttle.specs.Rules.{allows, free}
+use Rattle.throttle.specs.Rules.{allows, refusedBy}
 use Rattle.throttle.proofs.Instances.{free-allows}
 use Rattle.states.specs.Names.{WARN}
-use Rattle.ptc.specs.Crossing.{freeIn}
+use Rattle.ptc.specs.Crossing.{ruleIn, freeIn}
 use Rattle.records.specs.Records.{recAt}
 use Rattle.records.specs.Rows.{carries}
 use Rattle.board.specs.declared.Board.{Board}
@@ -139,15 +139,15 @@ module _ {s : Settings} {log buffer : List ℕ} (t : Taken s log buffer) {i : �
 
   -- ---- what a trigger was allowed by
 
-  pub free-seen : (state : ℕ) → freeIn (sceneIn s log i) state
-      ≡ free (rulesOf s) (before .marks) (before .clock .crossings) (eqb state WARN)
+  pub rule-seen : (state : ℕ) → ruleIn (sceneIn s log i) state
+      ≡ refusedBy (rulesOf s) (before .marks) (before .clock .crossings) (eqb state WARN)
   unfolding sceneBy
-  free-seen state =
+  rule-seen state =
       go (eqb state WARN)
-      ∙ ap (λ (x : Settings). free (rulesOf x) (before .marks) (before .clock .crossings) (eqb state WARN)) (own-settings s log i)
+      ∙ ap (λ (x : Settings). refusedBy (rulesOf x) (before .marks) (before .clock .crossings) (eqb state WARN)) (own-settings s log i)
     where
       go : (w : Bool) → if w (sceneIn s log i .low) (sceneIn s log i .norm)
-          ≡ free (rulesOf (before .settings)) (before .marks) (before .clock .crossings) w
+          ≡ refusedBy (rulesOf (before .settings)) (before .marks) (before .clock .crossings) w
       go true = refl
       go false = refl
 
@@ -164,4 +164,4 @@ module _ {s : Settings} {log buffer : List ℕ} (t : Taken s log buffer) {i : �
       let state = crossedIn s log i k .ptc .state in
       rw (warns-told t c k low)
       (free-allows (rulesOf s) (before .marks) (before .clock .crossings) (eqb state WARN)
-      (sym (free-seen state) ∙ free-then k low e) r h)
+      (ap (λ (rule : ℕ). eqb rule 0) (sym (rule-seen state)) ∙ free-then k low e) r h)

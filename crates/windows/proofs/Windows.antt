@@ -18,11 +18,11 @@ use Rattle.settings.specs.Names.{rulesOf}
 use Rattle.settings.specs.Check.{checked}
 use Rattle.settings.proofs.Bounds.{bounded, ordered}
 use Rattle.throttle.specs.Marks.{passed}
-use Rattle.throttle.specs.Windows.{countOf, Kept, Tells, freeAfter}
+use Rattle.throttle.specs.Windows.{countOf, Kept, Tells, refusedAfter}
 use Rattle.throttle.proofs.Windows.{tells-on, none-told}
-use Rattle.throttle.proofs.Instances.{Plain, Near, free-told, kept-on, rule-window, rule-low}
+use Rattle.throttle.proofs.Instances.{Plain, Near, refused-told, kept-on, rule-window, rule-low}
 use Rattle.states.specs.Names.{WARN}
-use Rattle.ptc.specs.Crossing.{freeIn}
+use Rattle.ptc.specs.Crossing.{ruleIn}
 use Rattle.records.specs.Records.{recAt, isCrossing}
 use Rattle.records.specs.Rows.{carries}
 use Rattle.records.specs.Refusal.{recordsIn}
@@ -38,7 +38,7 @@ use Rattle.logbook.specs.Whole.{Taken, Crossing, whole}
 use Rattle.logbook.proofs.Ground.{fit-at}
 use Rattle.logbook.proofs.Seen.{sceneIn}
 use Rattle.windows.specs.Windows.{crossingRows, triggers, inStretch, ruleAt, sentWarned, Windows}
-use Rattle.windows.proofs.Carried.{some-sent, carried, bit, sent-one, who-sent, free-seen, allowed}
+use Rattle.windows.proofs.Carried.{some-sent, carried, bit, sent-one, who-sent, rule-seen, allowed}
 
 -- ---- the four rules, as the window fact has them
 
@@ -97,17 +97,17 @@ module _ {s : Settings} {log buffer : List ℕ} (t : Taken s log buffer) where
       (λ (e : isCrossing (recAt log i) ≡ false). rw e old)
       (either (isCrossing (recAt log i)))
 
-  -- ---- whether a trigger is free, by the rows of the crossings before
+  -- ---- which rule refuses a trigger, by the rows of the crossings before
 
   near-rules : Near (rulesOf s)
   near-rules = omega (arith, bounded s (t .checks))
 
-  pub clear-told : {i : ℕ} → Crossing log i → (state : ℕ)
-      → freeIn (sceneIn s log i) state ≡ freeAfter (rulesOf s) (sofar i) (eqb state WARN)
-  clear-told {i} c state =
+  pub rule-told : {i : ℕ} → Crossing log i → (state : ℕ)
+      → ruleIn (sceneIn s log i) state ≡ refusedAfter (rulesOf s) (sofar i) (eqb state WARN)
+  rule-told {i} c state =
       let told = tells i (omega (arith, c .among)) in
-      free-seen t c state
-      ∙ free-told (rulesOf s) near-rules (before i .marks) (before i .clock .crossings) (sofar i) told (eqb state WARN)
+      rule-seen t c state
+      ∙ refused-told (rulesOf s) near-rules (before i .marks) (before i .clock .crossings) (sofar i) told (eqb state WARN)
 
   -- ---- each rule keeps its normal limit, and a trigger sent under warning the low one
 

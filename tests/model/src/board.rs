@@ -10,7 +10,7 @@ use crate::trigger::{throttle, Throttle};
 #[derive(Clone, Copy, PartialEq, Eq)]
 pub enum Cycle { None, Armed, Open }
 
-/// Why a request or a calibration trigger was lost; for the throttle, the rule that refused first.
+/// Why a request or a calibration trigger was lost; for the throttle "the first refusing rule, 1 to 4" (document 02, P5).
 #[rustfmt::skip]
 #[derive(Clone, Copy, PartialEq, Eq)]
 pub enum Lost { State, Slot, Gap, Cal, Rule1, Rule2, Rule3, Rule4 }
@@ -18,11 +18,19 @@ pub enum Lost { State, Slot, Gap, Cal, Rule1, Rule2, Rule3, Rule4 }
 /// The throttle's place among the five causes: rule 1 and all after it are the throttle's.
 pub const THROTTLE: usize = Lost::Rule1 as usize;
 
-/// Places of the run counts, in the report's order; from `LOST` on the five causes.
+impl Lost {
+    /// The place among the four rules of the one that refused; nothing for the other causes.
+    pub fn rule(self) -> Option<usize> {
+        (self as usize).checked_sub(THROTTLE)
+    }
+}
+
+/// Places of the run counts, in the report's order; from `LOST` on the five causes, from `LOST_R1` on the four rules.
 #[rustfmt::skip]
 pub mod count {
-    pub const REQUESTED: usize = 0; pub const ACCEPTED: usize = 1; pub const LOST: usize = 2;
-    pub const CAL_REQUESTED: usize = 7; pub const CAL_ACCEPTED: usize = 8; pub const CAL_LOST: usize = 9;
+    pub const REQUESTED: usize = 0; pub const ACCEPTED: usize = 1; pub const LOST: usize = 2; pub const LOST_R1: usize = 7;
+    pub const CAL_REQUESTED: usize = 11; pub const CAL_ACCEPTED: usize = 12; pub const CAL_LOST: usize = 13;
+    pub const ALL: usize = 14;
 }
 
 #[derive(Clone)]
@@ -30,7 +38,7 @@ pub struct Controller {
     pub state: usize,
     pub wait: usize,
     pub cycle: Cycle,
-    pub counts: [usize; 10],
+    pub counts: [usize; count::ALL],
     pub events: usize,
 }
 
@@ -73,7 +81,7 @@ impl Board {
     pub fn fresh(settings: Settings) -> Board {
         let holder = (0..8).find(|n| settings[SLOT0 + n] > 0).unwrap_or(8);
         let orbits_left = if holder == 8 { 0 } else { 10 * settings[SLOT0 + holder] };
-        let idle = Controller { state: 0, wait: 0, cycle: Cycle::None, counts: [0; 10], events: 0 };
+        let idle = Controller { state: 0, wait: 0, cycle: Cycle::None, counts: [0; count::ALL], events: 0 };
         let (held, controllers, triggers) = (Held::all(0), vec![idle; 8], Vec::new());
         let (crossings, expected, orbit, bc_errors) = (0, 0, 0, 0);
         Board { settings, throttle, crossings, expected, orbit, bc_errors, holder, orbits_left, held, controllers, triggers }
@@ -220,7 +228,7 @@ impl Board {
         if let Some(state) = to {
             self.enter(n, state);
             match command {
-                1 => self.controllers[n].counts = [0; 10],
+                1 => self.controllers[n].counts = [0; count::ALL],
                 5 => self.controllers[n].cycle = Cycle::Armed,
                 _ => {}
             }

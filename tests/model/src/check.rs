@@ -1,8 +1,8 @@
 //! The model's own tests: document 01's printed case and worked figures, read with believed codes (document 02, P1), and some of
 //! DESIGN's open points. Those of P1 are in `check_steady.rs`, of P2 in `check_editions.rs` and `check_schedules.rs`, of P3 in
-//! `check_older.rs`.
+//! `check_older.rs`, of P5 in `check_rules.rs` and `check_split.rs`.
 
-use crate::board::{Board, Cycle};
+use crate::board::{count, Board, Cycle};
 use crate::edition::{write, Edition, Own};
 use crate::merge::{merge, Merged};
 use crate::program::{run, BLOCK, BYTES};
@@ -10,17 +10,19 @@ use crate::refusal::Refusal;
 use crate::report::{report, row};
 use crate::settings::*;
 use crate::steady::{carried, Held, INPUTS};
-use crate::{check_editions, check_older, check_schedules, check_steady, edition};
+use crate::{check_editions, check_older, check_rules, check_schedules, check_split, check_steady, edition};
 use std::process::ExitCode;
 
 const PRINTED: &str = "crossings=1\norbit=0\nbc_errors=0\nholder=0\nptc=0\nstate=0\nrequested=1\naccepted=0\nlost_state=1\n\
-    lost_slot=0\nlost_gap=0\nlost_cal=0\nlost_throttle=0\ncal_requested=0\ncal_accepted=0\ncal_lost=0\nevents=0\n";
+    lost_slot=0\nlost_gap=0\nlost_cal=0\nlost_throttle=0\nlost_r1=0\nlost_r2=0\nlost_r3=0\nlost_r4=0\ncal_requested=0\n\
+    cal_accepted=0\ncal_lost=0\nevents=0\n";
 
 pub type Cases = Vec<(&'static str, bool)>;
 
 pub fn check() -> ExitCode {
     let base = [figures(), merges(), moves(), cycles(), texts(), blocks()].concat();
-    let cases = [base, check_steady::cases(), check_editions::cases(), check_schedules::cases(), check_older::cases()].concat();
+    let to_p3 = [check_steady::cases(), check_editions::cases(), check_schedules::cases(), check_older::cases()].concat();
+    let cases = [base, to_p3, check_rules::cases(), check_split::cases()].concat();
     let failed: Vec<_> = cases.iter().filter(|(_, holds)| !holds).collect();
     failed.iter().for_each(|(name, _)| println!("failed: {name}"));
     println!("{} passed, {} failed", cases.len() - failed.len(), failed.len());
@@ -118,7 +120,7 @@ fn moves() -> Cases {
     let standard = Settings::standard;
     let taken = |state, command| row(&board(standard(), state, 9, 8).command(0, command))[0] == 0xF0;
     let mut started = board(standard(), 0, 9, 8);
-    (started.controllers[0].counts, started.controllers[0].events) = ([1; 10], 5);
+    (started.controllers[0].counts, started.controllers[0].events) = ([1; count::ALL], 5);
     started.command(0, 1);
     let (counts, events) = (started.controllers[0].counts, started.controllers[0].events);
     vec![
@@ -130,7 +132,7 @@ fn moves() -> Cases {
         ("state 2 on error", states(standard(), 2, 9, 5, 12) == [18, 18, 18]),
         ("state 2 on busy", states(standard(), 2, 9, 5, 4) == [3, 3, 3]),
         ("state 9 leaves through 6", states(standard(), 9, 9, 5, 8) == [6, 7, 7]),
-        ("START clears the counts, not the events", (counts, events) == ([0; 10], 5)),
+        ("START clears the counts, not the events", (counts, events) == ([0; count::ALL], 5)),
     ]
 }
 
@@ -150,7 +152,7 @@ fn cycles() -> Cases {
         ("losing the slot drops an open cycle", after_the_slot(3, Cycle::Open) == (false, 1, 30)),
         ("an armed cycle survives the loss", after_the_slot(3, Cycle::Armed) == (true, 1, 30)),
         ("a whole cycle", (rows[0], rows[1], rows[401], rows[491]) == (0x10, 13, 2, 0x20)),
-        ("requests from at_wte to at_cal are lost to cal", counts[5..] == [491, counts[6], 1, 1, 0]),
+        ("requests from at_wte to at_cal are lost to cal", (counts[5], &counts[count::CAL_REQUESTED..]) == (491, &[1, 1, 0][..])),
         ("events count both kinds", board.controllers[0].events == counts[1] + 1),
     ]
 }

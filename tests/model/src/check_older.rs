@@ -41,7 +41,7 @@ fn faults() -> Cases {
 }
 
 /// The standard settings with these three low limits.
-fn lows(lows: [usize; 3]) -> Settings {
+pub fn lows(lows: [usize; 3]) -> Settings {
     let mut settings = Settings::standard();
     RULES.iter().zip(lows).for_each(|(&period, low)| settings[period + 2] = low);
     settings

@@ -1,6 +1,6 @@
 //! The model's own tests of P2's runs: each controller goes by its own schedule.
 
-use crate::board::{Board, Cycle};
+use crate::board::{count, Board, Cycle};
 use crate::check::{board, crossing, with, Cases};
 use crate::edition::Edition::{First, Second};
 use crate::edition::{values, Own};
@@ -92,7 +92,7 @@ fn calibrations() -> Cases {
     handed.command(1, 5);
     let rows: Vec<[u8; 12]> = (3490..3564 + 3564).map(|_| row(&handed.record(&crossing(0, 0, 8)))).collect();
     let sent = |n: usize, byte: u8| rows.iter().position(|row| row[n] == byte).map(|place| (3490 + place) % 3564);
-    let counts = |n: usize| handed.controllers[n].counts[7..] == [1, 1, 0];
+    let counts = |n: usize| handed.controllers[n].counts[count::CAL_REQUESTED..] == [1, 1, 0];
     let (of_0, of_1) = (lost_to_cal(two.clone(), 0), lost_to_cal(two.clone(), 1));
     vec![
         ("the cycle of controller 0", cycle(two.clone(), 0, 2990) == [(3000, 13), (3400, 2), (3490, 0x20)]),

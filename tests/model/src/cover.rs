@@ -1,8 +1,9 @@
-//! How often a range of seeds meets each thing that document 01 names, and document 02 up to P3: the texts are counted in
-//! `cover_texts.rs`, what P2 adds to the runs in `cover_schedules.rs`, what P3 adds in `cover_older.rs`.
+//! How often a range of seeds meets each thing that document 01 names, and document 02 up to P5: the texts are counted in
+//! `cover_texts.rs`, what P2 adds to the runs in `cover_schedules.rs`, what P3 adds in `cover_older.rs`, P5 in `cover_rules.rs`.
 
 use crate::board::{Board, Cycle, Did, Done, THROTTLE};
 use crate::cover_older::Source;
+use crate::cover_rules::Rules;
 use crate::cover_schedules::Calibrations;
 use crate::generate::{generate, KINDS};
 use crate::merge::{class, ignored, members, merge, Merged};
@@ -11,7 +12,7 @@ use crate::refusal::Refusal;
 use crate::steady::{Held, INPUTS};
 
 /// Groups of rows with their items, counted by place; a dash is a place that cannot come. A group without items is a row itself.
-const GROUPS: [(&str, &str); 49] = [
+const GROUPS: [(&str, &str); 61] = [
     ("state", "0 1 2 3 4 5 6 7 8 9 10 11 12 13 14 15 16 17 18 19"),
     ("merged", "none ready warning busy out_of_sync error bad disconnected"),
     ("ignored", "bad disconnected"),
@@ -61,6 +62,18 @@ const GROUPS: [(&str, &str); 49] = [
     ("stopped_by_0_in_3", "request calibration"),
     ("sent_in_WARN", "- in_1 in_2 in_3"),
     ("sent_in_READY_under_1", "- in_1 in_2"),
+    ("lost_in_READY", "r1 r2 r3 r4"),
+    ("lost_in_WARN", "r1 r2 r3 r4"),
+    ("before_later_rules", "r1 r2 r3"),
+    ("alone", "r1 r2 r3 r4"),
+    ("previous_holder_counts", "r1 r2 r3 r4"),
+    ("previous_holder_decides", "r1 r2 r3 r4"),
+    ("limits_after_move", "to_READY to_WARN"),
+    ("lost_in_WARN_under_1", "- r1_in_1 r1_in_2 - r2_in_1 r2_in_2"),
+    ("cal_not_split", "r1 r2 r3 r4"),
+    ("cleared", "r1 r2 r3 r4"),
+    ("reported", "r1 r2 r3 r4 all_four"),
+    ("reported_without_cal_lost", "r1 r2 r3 r4"),
 ];
 
 /// Counts by group and item.
@@ -80,14 +93,16 @@ pub fn cover(kind: &str, from: usize, to: usize) -> Option<String> {
         for seed in from..=to {
             let (text, log) = generate(kind, seed)?;
             let mut before = Before { held: Held::all(0), records: 0, last_crossing: 0 };
-            let (mut calibrations, source) = (Calibrations::of(&text), Source::of(&text));
+            let (mut calibrations, source, mut rules) = (Calibrations::of(&text), Source::of(&text), Rules::default());
             let mut watch = |board: &Board, done: &Done| {
                 table.record(&mut before, board, done);
                 table.schedules(&mut calibrations, board, done);
                 source.iter().for_each(|source| table.under_warning(source, board, done));
+                table.rules(&mut rules, board, done);
             };
-            if let Err(refusal) = run(&text, &log, &mut watch) {
-                table.refusal(refusal);
+            match run(&text, &log, &mut watch) {
+                Ok((board, _)) => table.reported(&rules, &board),
+                Err(refusal) => table.refusal(refusal),
             }
             table.text(&text);
             table.apart(&calibrations);

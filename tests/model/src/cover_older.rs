@@ -28,6 +28,9 @@ impl Table {
             let (sent, warn) = ([did.request, did.calibration].contains(&Some(Ok(()))), did.state == 8);
             self.add_if(sent && warn, "sent_in_WARN", place);
             self.add_if(sent && !warn && *warn_blocks == 1, "sent_in_READY_under_1", place);
+            if let (Some(Err(lost)), true, 1) = (did.request, warn, *warn_blocks) {
+                lost.rule().iter().for_each(|rule| self.add("lost_in_WARN_under_1", 3 * rule + place));
+            }
             for (item, asked) in [did.request, did.calibration].into_iter().enumerate().filter(|_| warn) {
                 let stopped = matches!(asked, Some(Err(lost)) if lost as usize >= THROTTLE);
                 let group = ["stopped_request", "stopped_calibration"][item];

@@ -4,9 +4,9 @@ use crate::edition::{Edition, Own};
 use crate::journal::{log, Manner};
 use crate::schedules::{resync_first, schedules, standard};
 use crate::settings::*;
-use crate::{damage_log, damage_text};
+use crate::{damage_log, damage_text, rules};
 
-pub const KINDS: [&str; 5] = ["valid", "edge", "text", "log", "standard"];
+pub const KINDS: [&str; 6] = ["valid", "edge", "text", "log", "standard", "rules"];
 
 /// A xorshift generator (Marsaglia), of which the upper bits are used.
 pub struct Random(u64);
@@ -29,11 +29,18 @@ impl Random {
     }
 }
 
-/// The settings text, in each edition for every third seed, and the log of a seed, or nothing for an unknown kind.
+/// The settings text, in each edition for every third seed, and the log of a seed, or nothing for an unknown kind. `rules` came
+/// later; it starts elsewhere, so that the cases of the other kinds stay as they were.
 pub fn generate(kind: &str, seed: usize) -> Option<(Vec<u8>, Vec<u8>)> {
     let place = KINDS.iter().position(|known| *known == kind)?;
-    let random = &mut Random((seed * 5 + place + 1).wrapping_mul(0x9E37_79B9_7F4A_7C15) as u64 | 1);
+    let start = if kind == "rules" { usize::MAX - seed } else { seed * 5 + place + 1 };
+    let random = &mut Random(start.wrapping_mul(0x9E37_79B9_7F4A_7C15) as u64 | 1);
     let edition = [Edition::First, Edition::Second, Edition::Third][seed % 3];
+    if kind == "rules" {
+        let settings = rules::settings(random, edition);
+        let own = under_warning(random, edition, settings);
+        return Some((edition.text(&own).into_bytes(), rules::log(random, &own.retire())));
+    }
     let (settings, manner, records) = match kind {
         "valid" => (short(random, edition), Manner::Lively, 1000 + random.below(5000)),
         "edge" if random.once_in(5) => (long_window(random, edition), Manner::Standard, 4000 + random.below(5000)),
@@ -63,7 +70,7 @@ fn under_warning(random: &mut Random, edition: Edition, settings: Settings) -> O
 }
 
 /// Good settings on a short orbit, so that a short log comes round to everything.
-fn short(random: &mut Random, edition: Edition) -> Settings {
+pub fn short(random: &mut Random, edition: Edition) -> Settings {
     let mut settings = Settings::standard();
     let orbit = 64 + random.below(137).min(random.below(137));
     settings[ORBIT] = orbit;

@@ -41,7 +41,7 @@ struct Journal<'a> {
 }
 
 /// A crossing with no marker, no request and every code 8.
-const READY: [u8; BYTES] = {
+pub const READY: [u8; BYTES] = {
     let mut record = [0x88; BYTES];
     (record[0], record[1], record[2], record[3]) = (0, 0, 0, 8);
     record
@@ -242,7 +242,7 @@ impl Journal<'_> {
     }
 }
 
-fn set_code(record: &mut [u8; BYTES], input: usize, code: u8) {
+pub fn set_code(record: &mut [u8; BYTES], input: usize, code: u8) {
     match input {
         GTFE => record[3] = code,
         _ if input % 2 == 0 => record[4 + input / 2] = record[4 + input / 2] & 0xF0 | code,

@@ -1,13 +1,16 @@
-//! An independent model of document 01 (the trigger desk) and document 02 up to P3, to test the product against. See README.md.
+//! An independent model of document 01 (the trigger desk) and document 02 up to P5, to test the product against. See README.md.
 
 mod board;
 mod check;
 mod check_editions;
 mod check_older;
+mod check_rules;
 mod check_schedules;
+mod check_split;
 mod check_steady;
 mod cover;
 mod cover_older;
+mod cover_rules;
 mod cover_schedules;
 mod cover_texts;
 mod damage_log;
@@ -21,6 +24,7 @@ mod older;
 mod program;
 mod refusal;
 mod report;
+mod rules;
 mod schedules;
 mod settings;
 mod steady;

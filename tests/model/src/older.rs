@@ -6,18 +6,21 @@ use crate::edition::Own;
 use crate::settings::*;
 use crate::trigger::Throttle;
 
-/// "READY uses normal limits, WARN low ones. Refused in WARN if warn_blocks is 1; ... or if for rule 2, 3 or 4 the triggers of
-/// the period−1 crossings before, plus this one, exceed the limit. Rule 1 reads as period r1_gap + 1 with both limits 1." Rows
-/// and report do not tell which refused, so every refusal is rule 1's.
+/// The period and the limit of each rule: "READY uses normal limits, WARN low ones. Rule 1 reads as period r1_gap + 1 with both
+/// limits 1."
+pub fn rules(own: &Settings, warn: bool) -> [(usize, usize); 4] {
+    let [two, three, four] = RULES.map(|period| (own[period], if warn { own[period + 2] } else { own[period + 1] }));
+    [(own[R1_GAP] + 1, 1), two, three, four]
+}
+
+/// "Refused in WARN if warn_blocks is 1; ... or if for rule 2, 3 or 4 the triggers of the period−1 crossings before, plus this one,
+/// exceed the limit." Since P5 the report tells the first rule that refused, and of `warn_blocks` REQUESTS section 3 says: "under
+/// warning rule 1 refuses where it does, else rule 2".
 pub fn throttle<const WARN_BLOCKS: usize>(own: &Settings, warn: bool, before: &dyn Fn(usize) -> usize) -> Result<(), Lost> {
-    let limited = |&period: &usize| (own[period], if warn { own[period + 2] } else { own[period + 1] });
-    let mut rules = RULES.iter().map(limited).chain([(own[R1_GAP] + 1, 1)]);
-    let refused = (warn && WARN_BLOCKS == 1) || rules.any(|(period, limit)| before(period - 1) + 1 > limit);
-    if refused {
-        Err(Lost::Rule1)
-    } else {
-        Ok(())
-    }
+    let mut named = [Lost::Rule1, Lost::Rule2, Lost::Rule3, Lost::Rule4].into_iter().zip(rules(own, warn));
+    let blocks = |rule: Lost| warn && WARN_BLOCKS == 1 && rule == Lost::Rule2;
+    let first = named.find(|&(rule, (period, limit))| blocks(rule) || before(period - 1) + 1 > limit);
+    first.map_or(Ok(()), |(rule, _)| Err(rule))
 }
 
 /// A fresh board of the older desk, which goes by the text's own values.

@@ -1,13 +1,13 @@
-//! Document 01, "Report" and "Records and rows": what the program prints, and the rows.
+//! Document 01, "Report", with document 02, P5, and "Records and rows": what the program prints, and the rows.
 
-use crate::board::{Board, Controller, Done};
+use crate::board::{count, Board, Controller, Done};
 use crate::settings::SLOT0;
 
-/// The run counts by name, in the report's order.
+/// The run counts by name, in the report's order: "`lost_throttle` in the report is followed by `lost_r1` to `lost_r4`".
 #[rustfmt::skip]
-const COUNTS: [&str; 10] = [
-    "requested", "accepted", "lost_state", "lost_slot", "lost_gap", "lost_cal", "lost_throttle", "cal_requested", "cal_accepted",
-    "cal_lost",
+const COUNTS: [&str; count::ALL] = [
+    "requested", "accepted", "lost_state", "lost_slot", "lost_gap", "lost_cal", "lost_throttle",
+    "lost_r1", "lost_r2", "lost_r3", "lost_r4", "cal_requested", "cal_accepted", "cal_lost",
 ];
 
 /// "Common lines, then a block for each controller with a slot above 0, rising."

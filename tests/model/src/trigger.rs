@@ -1,14 +1,16 @@
 //! Document 01, "Cycle and trigger": step 4 of a crossing, by the state after the move and the controller's own schedule
-//! (document 02, P2), and without `warn_blocks` (P3).
+//! (document 02, P2), without `warn_blocks` (P3), and with the rule that refused (P5).
 
 use crate::board::{count, Board, Cycle, Did, Lost, THROTTLE};
 use crate::settings::*;
 
-/// What a throttle answers by the settings, whether the state is WARN, and how many triggers so many crossings before had.
+/// What a throttle answers by the settings, whether the state is WARN, and how many triggers so many crossings before had:
+/// "free", which is `Ok`, or the rule.
 pub type Throttle = fn(&Settings, bool, &dyn Fn(usize) -> usize) -> Result<(), Lost>;
 
 /// Refused "if any of the r1_gap crossings before had a trigger; or if for rule 2, 3 or 4 the triggers of the period−1 crossings
-/// before, plus this one, exceed the limit": since P3 the low limits are the one way to stop triggers under warning.
+/// before, plus this one, exceed the limit": since P3 the low limits are the one way to stop triggers under warning. "The
+/// throttle's answer becomes "free" or the first refusing rule, 1 to 4, in that order" (P5).
 pub fn throttle(settings: &Settings, warn: bool, triggers_before: &dyn Fn(usize) -> usize) -> Result<(), Lost> {
     if triggers_before(settings[R1_GAP]) > 0 {
         return Err(Lost::Rule1);
@@ -66,7 +68,7 @@ impl Board {
         self.throttle(n)
     }
 
-    /// "READY uses normal limits, WARN low ones."
+    /// "READY uses normal limits, WARN low ones": "the limits of the state after the move".
     fn throttle(&self, n: usize) -> Result<(), Lost> {
         (self.throttle)(&self.settings, self.controllers[n].state == 8, &|crossings| self.triggers_before(crossings))
     }
@@ -76,14 +78,18 @@ impl Board {
         self.triggers.iter().rev().take_while(|&trigger| trigger + crossings >= self.crossings).count()
     }
 
-    /// "`events` counts both kinds since code 7"; the `cal_` counts "balance apart and stand outside the other sum".
+    /// "`events` counts both kinds since code 7"; the `cal_` counts "balance apart and stand outside the other sum". "`lost_r1` to
+    /// `lost_r4`; their sum equals" `lost_throttle`; "calibration losses aren't split".
     fn count(&mut self, n: usize, did: &Did) {
         let counts = &mut self.controllers[n].counts;
         if let Some(answer) = did.request {
             counts[count::REQUESTED] += 1;
             match answer {
                 Ok(()) => counts[count::ACCEPTED] += 1,
-                Err(lost) => counts[count::LOST + (lost as usize).min(THROTTLE)] += 1,
+                Err(lost) => {
+                    counts[count::LOST + (lost as usize).min(THROTTLE)] += 1;
+                    lost.rule().iter().for_each(|rule| counts[count::LOST_R1 + rule] += 1);
+                }
             }
         }
         if let Some(answer) = did.calibration {

@@ -3,8 +3,7 @@
 use native.Mathlib.Omega.{arith}
 use borrow.Author.Needs.{needs}
 use lib.Dec.{eqb}
-use Rattle.laws.proofs.Bools.{one-le}
-use Rattle.ptc.proofs.Tallies.{if-zero-le}
+use Rattle.laws.proofs.Bools.{one-le, if-most}
 use Rattle.ptc.proofs.events_of.Statement.{statement}
 use Rattle.ptc.proofs.events_of.Tie as tie
 
@@ -20,7 +19,7 @@ one-requires c κs = search needs
 add-result : tie.Need-add-result
 add-result c =
     let a = c .before .before .before .args in
-    omega (arith, c .one .ensures, one-le (c .before .either .result), c .before .before .events-before .ensures, if-zero-le (eqb (a .step) 7) (a .events))
+    omega (arith, c .one .ensures, one-le (c .before .either .result), c .before .before .events-before .ensures, if-most (eqb (a .step) 7) 0 (a .events) (a .events) (omega arith) (omega arith))
 
 returns : tie.Need-returns
 returns c = rw (c .one .ensures, c .before .either .ensures, c .before .before .events-before .ensures)

@@ -3,8 +3,8 @@
 use mathlib.Core.Path.{subst⁻¹}
 use native.Mathlib.Omega.{arith}
 use borrow.Author.Needs.{needs}
-use Rattle.ptc.specs.Counts.{noCounts}
-use Rattle.ptc.specs.support.Room.{CountsRoom}
+use Rattle.counts.specs.Counts.{noCounts}
+use Rattle.counts.specs.support.Room.{CountsRoom}
 use Rattle.ptc_cases.proofs.in_state.Statement.{statement}
 use Rattle.ptc_cases.proofs.in_state.Tie as tie
 

@@ -13,7 +13,7 @@ use Rattle.report.proofs.text_length.Statement.{statement}
 use Rattle.report.proofs.text_length.Tie as tie
 
 abbrev Inv-loop : tie.InvT-loop
-Inv-loop b sum₀ k₀ sum k = (k ≤ 8) × (sum ≤ 16384 + 65536 * k) × (sum + length (Rest b k) ≡ length (reportText b))
+Inv-loop b sum₀ k₀ sum k = (k ≤ 8) × (sum ≤ 16384 + 131072 * k) × (sum + length (Rest b k) ≡ length (reportText b))
 
 abbrev μ-loop : tie.MeasureT-loop
 μ-loop b sum₀ k₀ sum k = 8 - k

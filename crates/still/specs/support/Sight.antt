@@ -1,15 +1,16 @@
--- What a crossing sees before any controller moves: the turn, the classes, what is asked, and whether the holder's trigger is free.
+-- What a crossing sees before any controller moves: the turn, the classes, what is asked, and which rule refuses the holder's trigger.
 use Prim.Native.Nat.{ℕ, _%_}
 use mathlib.Core.Bool.{Bool, false, not, _&&_, _||_}
 use mathlib.Core.List.{List}
 use lib.Dec.{eqb}
 use lib.ListN.{getD}
+use Rattle.laws.specs.Base.{if}
 use Rattle.settings.specs.declared.names.Rules.{Rules}
 use Rattle.settings.specs.declared.names.Waits.{Waits}
 use Rattle.lanes.specs.support.Lanes.{laneClasses}
 use Rattle.words.specs.Same.{sameBytes}
 use Rattle.steady.specs.Steady.{believedOf}
-use Rattle.throttle.specs.Rules.{free}
+use Rattle.throttle.specs.Rules.{refusedBy}
 use Rattle.clock.specs.declared.Clock.{Clock}
 use Rattle.clock.specs.declared.Turn.{Turn}
 use Rattle.clock.specs.Clock.{numberOf, orbitEnds}
@@ -49,5 +50,5 @@ sceneFor times waits rules p sight marks clock =
     let place = holder % 8 in
     let moved = movedOf (scheduleFrom times holder) waits holder number (getD (sight .classes) place 0) (p .state) (p .wait) in
     let asks = askedIn (sight .requests) place || not (eqb (p .cycle) 0) in
-    let now = asks && free rules marks (clock .crossings) (eqb (moved .state) WARN) in
-    record { number = number; holder = holder; norm = now; low = now }
+    let rule = if asks (refusedBy rules marks (clock .crossings) (eqb (moved .state) WARN)) 0 in
+    record { number = number; holder = holder; norm = rule; low = rule }

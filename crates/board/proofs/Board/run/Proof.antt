@@ -29,27 +29,27 @@ use Rattle.board.proofs.Board.run.Statement.{statement}
 use Rattle.board.proofs.Board.run.Tie as tie
 
 abbrev Inv-loop2 : tie.InvT-loop2
-Inv-loop2 log n rows self₀ kit slots busy clock carried believed sight shown₀ calm₀ i classes scene bytes₀ k₀ self shown calm bytes k =
+Inv-loop2 log n rows self₀ kit slots rules busy clock carried believed sight shown₀ calm₀ i classes scene bytes₀ k₀ self shown calm bytes k =
     (self ≡ withPtcs self₀ (self .ptcs))
     × (Acting (plansIn kit) scene (sight .classes) (sight .requests) (sight .due) (self₀ .ptcs) shown₀ k (self .ptcs) bytes shown calm)
 
 abbrev μ-loop2 : tie.MeasureT-loop2
-μ-loop2 log n rows self₀ kit slots busy clock carried believed sight shown₀ calm₀ i classes scene bytes₀ k₀ self shown calm bytes k = 8 - k
+μ-loop2 log n rows self₀ kit slots rules busy clock carried believed sight shown₀ calm₀ i classes scene bytes₀ k₀ self shown calm bytes k = 8 - k
 
 abbrev Inv-loop : tie.InvT-loop
-Inv-loop log n rows₀ self₀ kit slots busy clock₀ carried₀ believed₀ sight₀ shown₀ calm₀ i₀ rows self clock carried believed sight shown calm i =
+Inv-loop log n rows₀ self₀ kit slots rules busy clock₀ carried₀ believed₀ sight₀ shown₀ calm₀ i₀ rows self clock carried believed sight shown calm i =
     Stands self₀ log n rows₀ kit rows self clock (record { carried = carried; believed = believed }) sight shown calm i
 
 abbrev μ-loop : tie.MeasureT-loop
-μ-loop log n rows₀ self₀ kit slots busy clock₀ carried₀ believed₀ sight₀ shown₀ calm₀ i₀ rows self clock carried believed sight shown calm i = n - i
+μ-loop log n rows₀ self₀ kit slots rules busy clock₀ carried₀ believed₀ sight₀ shown₀ calm₀ i₀ rows self clock carried believed sight shown calm i = n - i
 
 -- ---- the ways back: to the turn's begin, to where the record was found a crossing, and to where it was looked at
 
 abbrev start : tie.In-loop Inv-loop2 μ-loop2 Inv-loop μ-loop → tie.Start Inv-loop2 μ-loop2 Inv-loop μ-loop
-start c = c .before .before .before .before .before .before .before .before .before .before .before .before .before .before .before .before .before .before .before
+start c = c .before .before .before .before .before .before .before .before .before .before .before .before .before .before .before .before .before .before .before .before
 
 abbrev making : tie.In-loop Inv-loop2 μ-loop2 Inv-loop μ-loop → tie.After-of Inv-loop2 μ-loop2 Inv-loop μ-loop
-making c = c .before .before .before .before .before .before .before .before .before .before .before .before .before .before .before
+making c = c .before .before .before .before .before .before .before .before .before .before .before .before .before .before .before .before
 
 abbrev marking : tie.In-loop Inv-loop2 μ-loop2 Inv-loop μ-loop → tie.After-busy-of Inv-loop2 μ-loop2 Inv-loop μ-loop
 marking c = c .before .before .before .before .before .before .before .before .before .before .before .before
@@ -61,7 +61,7 @@ abbrev crossing : tie.After-next Inv-loop2 μ-loop2 Inv-loop μ-loop → tie.Els
 crossing c = c .before .before .before .before .before .before .before
 
 abbrev looking : tie.After-scene Inv-loop2 μ-loop2 Inv-loop μ-loop → tie.After-next Inv-loop2 μ-loop2 Inv-loop μ-loop
-looking c = c .before .before .before .before .before .before .before .before .before .before
+looking c = c .before .before .before .before .before .before .before .before .before
 
 abbrev seeing : tie.In-loop2 Inv-loop2 μ-loop2 Inv-loop μ-loop → tie.After-scene Inv-loop2 μ-loop2 Inv-loop μ-loop
 seeing c = c .before .before .before
@@ -184,10 +184,10 @@ busy-of-requires : tie.Need-busy-of-requires Inv-loop2 μ-loop2 Inv-loop μ-loop
 busy-of-requires c κs = search needs
 
 first-requires : tie.Need-first-requires Inv-loop2 μ-loop2 Inv-loop μ-loop
-first-requires c κs = let a = c .before .before .before .before .before .before .before .before .before .before .before .before .before .before .before .before in (carried-long a, believed-long a, believed-low (first-held a) (held-sound a))
+first-requires c κs = let a = c .before .before .before .before .before .before .before .before .before .before .before .before .before .before .before .before .before in (carried-long a, believed-long a, believed-low (first-held a) (held-sound a))
 
 loop-holds : tie.Need-loop-holds Inv-loop2 μ-loop2 Inv-loop μ-loop
-loop-holds c = stands-first _ _ _ _ _ _ (coded-at (c .before .before .before .before .before .before .before .before .before .before .before .before .before .before .before .before .before) (c .first .ensures .1) (c .first .ensures .2)) (c .first .ensures .0)
+loop-holds c = stands-first _ _ _ _ _ _ (coded-at (c .before .before .before .before .before .before .before .before .before .before .before .before .before .before .before .before .before .before) (c .first .ensures .1) (c .first .ensures .2)) (c .first .ensures .0)
 
 mul-if1 : tie.Need-mul-if1 Inv-loop2 μ-loop2 Inv-loop μ-loop
 mul-if1 c = search (needs, fits c)
@@ -274,7 +274,7 @@ element-copy-out-h : tie.Need-element-copy-out-h Inv-loop2 μ-loop2 Inv-loop μ-
 element-copy-out-h c = search needs
 
 scene-requires : tie.Need-scene-requires Inv-loop2 μ-loop2 Inv-loop μ-loop
-scene-requires c κs = rules-asked (begun (c .before .before .before .before .before .before .before .before .before .before .before .before .before .before .before .before .before .before)) (crossed-at (c .before .before .before .before .before .before .before .before .before .before .before .before .before .before .before .before))
+scene-requires c κs = rules-asked (begun (c .before .before .before .before .before .before .before .before .before .before .before .before .before .before .before .before .before)) (crossed-at (c .before .before .before .before .before .before .before .before .before .before .before .before .before .before .before))
 
 next-due-requires : tie.Need-next-due-requires Inv-loop2 μ-loop2 Inv-loop μ-loop
 next-due-requires c κs = search needs
@@ -372,13 +372,13 @@ clock-after-requires c κs =
     clock-asked (begun (turn s)) (crossed-at (crossing (looking s)))
 
 mul-put-row-2 : tie.Need-mul-put-row-2 Inv-loop2 μ-loop2 Inv-loop μ-loop
-mul-put-row-2 c = search (needs, fits (c .before .before .before .before .before .before .before .before .before .before .before .before .before .before .before .before .before .before .before .before .before .before .before .before .before .before .before))
+mul-put-row-2 c = search (needs, fits (c .before .before .before .before .before .before .before .before .before .before .before .before .before .before .before .before .before .before .before .before .before .before .before .before .before .before))
 
 sub-put-row-2 : tie.Need-sub-put-row-2 Inv-loop2 μ-loop2 Inv-loop μ-loop
-sub-put-row-2 c = search (needs, fits (c .before .before .before .before .before .before .before .before .before .before .before .before .before .before .before .before .before .before .before .before .before .before .before .before .before .before .before))
+sub-put-row-2 c = search (needs, fits (c .before .before .before .before .before .before .before .before .before .before .before .before .before .before .before .before .before .before .before .before .before .before .before .before .before .before))
 
 part-put-row-start-2 : tie.Need-part-put-row-start-2 Inv-loop2 μ-loop2 Inv-loop μ-loop
-part-put-row-start-2 c = search (needs, fits (c .before .before .before .before .before .before .before .before .before .before .before .before .before .before .before .before .before .before .before .before .before .before .before .before .before .before .before))
+part-put-row-start-2 c = search (needs, fits (c .before .before .before .before .before .before .before .before .before .before .before .before .before .before .before .before .before .before .before .before .before .before .before .before .before .before))
 
 part-put-row-end-2 : tie.Need-part-put-row-end-2 Inv-loop2 μ-loop2 Inv-loop μ-loop
 part-put-row-end-2 c = search needs
@@ -390,13 +390,13 @@ crossing-row-requires c κs =
     shown-fits (begun (turn s)) (crossed-at (crossing (looking s))) _ (looking s .next .ensures .0) _ (s .scene .ensures) _ _ _ _ (acted-at l)
 
 put-row-requires-2 : tie.Need-put-row-requires-2 Inv-loop2 μ-loop2 Inv-loop μ-loop
-put-row-requires-2 c κs = rw (length-take, length-drop) (omega (arith, fits (c .before .before .before .before .before .before .before .before .before .before .before .before .before .before .before .before .before .before .before .before .before .before .before .before .before .before .before .before .before)))
+put-row-requires-2 c κs = rw (length-take, length-drop) (omega (arith, fits (c .before .before .before .before .before .before .before .before .before .before .before .before .before .before .before .before .before .before .before .before .before .before .before .before .before .before .before .before)))
 
 add-i-2 : tie.Need-add-i-2 Inv-loop2 μ-loop2 Inv-loop μ-loop
-add-i-2 c = search (needs, fits (c .before .before .before .before .before .before .before .before .before .before .before .before .before .before .before .before .before .before .before .before .before .before .before .before .before .before .before .before .before .before .before .before))
+add-i-2 c = search (needs, fits (c .before .before .before .before .before .before .before .before .before .before .before .before .before .before .before .before .before .before .before .before .before .before .before .before .before .before .before .before .before .before .before))
 
 loop-less-2 : tie.Need-loop-less-2 Inv-loop2 μ-loop2 Inv-loop μ-loop
-loop-less-2 c = search (needs, (c .before .before .before .before .before .before .before .before .before .before .before .before .before .before .before .before .before .before .before .before .before .before .before .before .before .before .before .before .before .before .before .before) .loop-test .taken)
+loop-less-2 c = search (needs, (c .before .before .before .before .before .before .before .before .before .before .before .before .before .before .before .before .before .before .before .before .before .before .before .before .before .before .before .before .before .before .before) .loop-test .taken)
 
 loop-again-2 : tie.Need-loop-again-2 Inv-loop2 μ-loop2 Inv-loop μ-loop
 loop-again-2 c =
@@ -413,7 +413,7 @@ same-length c = search needs
 returns : tie.Need-returns Inv-loop2 μ-loop2 Inv-loop μ-loop
 returns c =
     let l = c .before .before .loop in
-    let e : l .i ≡ c .before .before .before .before .before .before .before .before .before .before .before .before .before .before .before .before .before .before .before .before .args .n = omega (arith, c .before .loop-test .left, l .inv .most) in
+    let e : l .i ≡ c .before .before .before .before .before .before .before .before .before .before .before .before .before .before .before .before .before .before .before .before .before .args .n = omega (arith, c .before .loop-test .left, l .inv .most) in
     (rw (← e) (l .inv .board), rw (← e) (l .inv .laidOut))
 
 pub run-spec : {M : Type 1} → statement M

@@ -17,8 +17,8 @@ opened-requires c κs = search needs
 asks-trigger-requires : tie.Need-asks-trigger-requires
 asks-trigger-requires c κs = search needs
 
-free-in-requires : tie.Need-free-in-requires
-free-in-requires c κs = search needs
+rule-in-requires : tie.Need-rule-in-requires
+rule-in-requires c κs = search needs
 
 fate-requires : tie.Need-fate-requires
 fate-requires c κs = search needs
@@ -61,7 +61,7 @@ returns c =
     (cycle .before .kept .ensures)
     (cycle .opened .ensures)
     (fate .before .before .asks-trigger .ensures)
-    (fate .before .free-in .ensures)
+    (fate .before .rule-in .ensures)
     (fate .fate .ensures)
     (counts .before .before .before .is-sent .ensures)
     (counts .before .before .both .ensures)
@@ -81,7 +81,7 @@ moved-spec =
     kept-requires
     opened-requires
     asks-trigger-requires
-    free-in-requires
+    rule-in-requires
     fate-requires
     is-sent-requires
     both-requires

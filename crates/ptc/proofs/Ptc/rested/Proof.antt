@@ -7,8 +7,8 @@ use Rattle.ptc.proofs.Built.{rested-is}
 use Rattle.ptc.proofs.Ptc.rested.Statement.{statement}
 use Rattle.ptc.proofs.Ptc.rested.Tie as tie
 
-free-in-requires : tie.Need-free-in-requires
-free-in-requires c κs = search needs
+rule-in-requires : tie.Need-rule-in-requires
+rule-in-requires c κs = search needs
 
 fate-requires : tie.Need-fate-requires
 fate-requires c κs = search needs
@@ -36,7 +36,7 @@ returns c =
     let sent = added .before .before in
     let fate = sent .before .before in
     rested-is _ _ _ _ _ _
-    (fate .before .before .free-in .ensures)
+    (fate .before .before .rule-in .ensures)
     (fate .fate .ensures)
     (sent .before .is-sent .ensures)
     (sent .both .ensures)
@@ -47,7 +47,7 @@ pub rested-spec : {M : Type 1} → statement M
 rested-spec =
     tie.close
     (tie.spec
-    free-in-requires
+    rule-in-requires
     fate-requires
     is-sent-requires
     both-requires

@@ -9,7 +9,7 @@ use lib.Dec.{eqb}
 use lib.ListN.{getD}
 use Rattle.settings.specs.declared.names.Rules.{Rules}
 use Rattle.settings.specs.declared.names.Waits.{Waits}
-use Rattle.throttle.specs.Rules.{free}
+use Rattle.throttle.specs.Rules.{refusedBy}
 use Rattle.clock.specs.declared.Clock.{Clock}
 use Rattle.clock.specs.Clock.{numberOf}
 use Rattle.states.specs.Moves.{movedOf}
@@ -26,16 +26,16 @@ module _ (times : List ℕ) (waits : Waits) (rules : Rules) (p : Ptc) (sight : S
   abbrev asks : Bool
   asks = askedIn (sight .requests) (sight .turn .holder % 8) || not (eqb (p .cycle) 0)
 
-  abbrev seeing : Bool → Scene
-  seeing now = record { number = number; holder = sight .turn .holder; norm = now; low = now }
+  abbrev seeing : ℕ → Scene
+  seeing rule = record { number = number; holder = sight .turn .holder; norm = rule; low = rule }
 
-  asked-is : (warn now : Bool) → number ≡ numberOf clock (sight .marker) → asks ≡ true
+  asked-is : (warn : Bool) (rule : ℕ) → number ≡ numberOf clock (sight .marker) → asks ≡ true
       → warn ≡ eqb (movedOf (scheduleFrom times (sight .turn .holder)) waits (sight .turn .holder) number (getD (sight .classes) (sight .turn .holder % 8) 0) (p .state) (p .wait) .state) 8
-      → now ≡ free rules marks (clock .crossings) warn → seeing now ≡ sceneFor times waits rules p sight marks clock
+      → rule ≡ refusedBy rules marks (clock .crossings) warn → seeing rule ≡ sceneFor times waits rules p sight marks clock
   unfolding sceneFor
-  asked-is warn now n a w f = rw (f, w, n, a)
+  asked-is warn rule n a w f = rw (f, w, n, a)
 
-  idle-is : number ≡ numberOf clock (sight .marker) → asks ≡ false → seeing false ≡ sceneFor times waits rules p sight marks clock
+  idle-is : number ≡ numberOf clock (sight .marker) → asks ≡ false → seeing 0 ≡ sceneFor times waits rules p sight marks clock
   unfolding sceneFor
   idle-is n a = rw (n, a)
 
@@ -54,11 +54,11 @@ array-read-is-warned c = search needs
 is-warned-requires : tie.Need-is-warned-requires
 is-warned-requires c κs = search needs
 
-free-requires : tie.Need-free-requires
-free-requires c κs = search needs
+refused-by-requires : tie.Need-refused-by-requires
+refused-by-requires c κs = search needs
 
 returns : tie.Need-returns
-returns c = asked-is _ _ _ _ _ _ _ _ _ _ (c .before .before .before .before .before .number .ensures) (sym (c .before .before .before .before .asks .ensures) ∙ c .before .before .before .if1 .taken) (c .before .is-warned .ensures) (c .free .ensures)
+returns c = asked-is _ _ _ _ _ _ _ _ _ _ (c .before .before .before .before .before .number .ensures) (sym (c .before .before .before .before .asks .ensures) ∙ c .before .before .before .if1 .taken) (c .before .is-warned .ensures) (c .refused-by .ensures)
 
 returns-2 : tie.Need-returns-2
 returns-2 c = idle-is _ _ _ _ _ _ _ _ (c .before .before .number .ensures) (sym (c .before .asks .ensures) ∙ c .if1 .left)
@@ -72,6 +72,6 @@ scene-spec =
     cast-h
     array-read-is-warned
     is-warned-requires
-    free-requires
+    refused-by-requires
     returns
     returns-2)

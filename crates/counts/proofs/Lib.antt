@@ -1,0 +1,3 @@
+pub mod Tallies
+pub mod Balance
+mod Parts
