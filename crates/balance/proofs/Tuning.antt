@@ -1,6 +1,6 @@
 -- A request that was lost to rule r met no other cause, so r is the first rule that fails over the rows of the crossings before.
 -- The laws of the first failing rule of a list then say what it is of rule r, and of those before it.
-use mathlib.Core.Path.{_≡_, refl, ap, sym, _∙_}
+use mathlib.Core.Path.{_≡_, refl, sym}
 use mathlib.Core.Bool.{Bool, true, false, _&&_}
 use mathlib.Core.List.{List}
 use Prim.Native.Nat.{ℕ, zero, suc, _+_, _-_, _≤_, _<_}
@@ -20,7 +20,6 @@ use Rattle.counts.specs.declared.Lost.{Lost}
 use Rattle.counts.specs.Counts.{STATE, SLOT, GAP, CAL, inGap, ruled, ruledTo, lostTo as lostUnder}
 use Rattle.counts.proofs.Balance.{ruled-names}
 use Rattle.logbook.specs.Row.{rowAt, warnsIn}
-use Rattle.logbook.specs.Whole.{Crossing}
 use Rattle.windows.specs.Windows.{crossingRows, triggers}
 use Rattle.balance.specs.Reading.{Look, lookAt, cause, counted, pastCrossing, readingOf}
 use Rattle.balance.specs.Exact.{busyIn}
