@@ -1,4 +1,4 @@
--- The balance over a whole log: a bench's reading of settings, records and rows has the closing board's counts, and both sums agree.
+-- The balance over a whole log: a bench's reading of settings, records and rows has the closing board's counts, and the sums agree.
 -- By induction on the records the reading follows the controller; a sound board's sums agree, so the reading's do.
 use mathlib.Core.Path.{_≡_, refl, sym, ap, _∙_}
 use mathlib.Core.Logic.{⊎-elim}

@@ -1,4 +1,4 @@
--- Bounds of the counting: losses that are each within m sum up to at most five times m, those of the throttle to at most four times m.
+-- Bounds of the counting: counts that are each within m, sent and five losses, sum up to at most six times m; the four rules to four times.
 -- By reading the conjunction part by part.
 use mathlib.Core.Path.{_≡_}
 use mathlib.Core.Bool.{true}

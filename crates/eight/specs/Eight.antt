@@ -39,7 +39,7 @@ clockOf orbit c marker bytes =
     let t = tickedOf orbit c marker in
     record { crossings = t .crossings; next = t .next; orbits = if (clearsOrbit bytes) 0 (t .orbits); errors = t .errors }
 
--- each controller among m crossings done: state, wait, cycle, counts and both sums
+-- each controller among m crossings done: state, wait, cycle, counts and the three sums
 abbrev pub soundAt : (holder m k : ℕ) (p : Ptc) → Bool
 soundAt holder m k p = soundPtc k (eqb k holder) m p
 

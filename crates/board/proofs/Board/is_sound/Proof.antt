@@ -1,4 +1,4 @@
--- `board::Board::is_sound` meets its contract: a board is sound where its five parts are.
+-- `board::Board::is_sound` meets its contract: a board is sound where its six parts are.
 -- That is what the call on the parts answers.
 use borrow.Author.Needs.{needs}
 use Rattle.board.specs.Sound.{soundBoard}
