@@ -1,8 +1,9 @@
 #!/usr/bin/env python3
-"""Logs and rows of the desk in a form that a person can write and read.
+"""Logs, rows and histories of the desk in a form that a person can write and read.
 
 usage: benchlog.py make LOG.txt > run.rec       the records of a readable log
        benchlog.py show LOG.txt ROWS.bin        its rows, those that say something, one to a line
+       benchlog.py history INPUT HISTORY.bin    the changes of an input's code, one to a line
 
 A readable log has one word and its details to a line; `#` begins a comment.
 
@@ -17,6 +18,8 @@ import sys
 
 CODES = {"disconnected": 0, "warning": 1, "sync": 2, "busy": 4, "ready": 8, "error": 12}
 COMMANDS = ["START", "STOP", "HARD", "RESYNC", "CALIBRATE", "PANIC"]
+# The manual's names for the codes of an input (document 003, Table 1). A history has no 0: it is kept as 15.
+CHANGES = {1: "warning", 2: "out of sync", 4: "busy", 8: "ready", 12: "error", 15: "disconnected"}
 STATUS = {10: "idle", 8: "ready", 1: "warning", 0: "disconnected", 2: "out of sync", 12: "error", 4: "busy"}
 SENDS = {1: "BC0", 2: "TE", 5: "RESYNC", 6: "HARD", 7: "EC0", 8: "OC0", 9: "START", 10: "STOP", 11: "GAP", 13: "WTE"}
 
@@ -142,6 +145,36 @@ def show(records, rows):
         crossing, before = crossing + 1, shown
 
 
+def code_words(code, source):
+    """What an input changed to. Code 11 says something from partitions 24 to 31 alone."""
+    if code == 11 and source in [str(n) for n in range(24, 32)]:
+        return "trigger or inhibit"
+    return CHANGES.get(code, f"bad code {code}")
+
+
+def history(source, changes):
+    """A refusal is handed on as it is. No history begins like one: its seventh byte is a code, which is below 16."""
+    if changes[:8] == b"refused=":
+        say(changes.decode())
+        sys.exit(1)
+    if len(changes) % 7:
+        sys.exit("benchlog: the history ends within a change")
+    lines = ""
+    for n in range(0, len(changes), 7):
+        orbit, number, code = (int.from_bytes(changes[n + a : n + b], "little") for a, b in [(0, 4), (4, 6), (6, 7)])
+        lines += f"orbit {orbit} crossing {number}: {code_words(code, source)}\n"
+    say(lines)
+
+
+def say(text):
+    """Prints; what keeps it from that is told as the desk's programs tell it."""
+    try:
+        with open(1, "w", encoding="utf-8", closefd=False) as out:
+            out.write(text)
+    except OSError as error:
+        sys.exit(f"standard output: {error.strerror}")
+
+
 def main():
     if len(sys.argv) == 3 and sys.argv[1] == "make":
         with open(sys.argv[2], encoding="utf-8") as log:
@@ -149,6 +182,9 @@ def main():
     elif len(sys.argv) == 4 and sys.argv[1] == "show":
         with open(sys.argv[2], encoding="utf-8") as log, open(sys.argv[3], "rb") as rows:
             show(records_of(log), rows.read())
+    elif len(sys.argv) == 4 and sys.argv[1] == "history":
+        with open(sys.argv[3], "rb") as changes:
+            history(sys.argv[2], changes.read())
     else:
         sys.exit(__doc__)
 

@@ -7,14 +7,14 @@ use Prim.Native.Nat.{ℕ, zero, suc, _≤_, _<_}
 use native.Mathlib.Omega.{arith}
 use lib.ListN.{getD}
 use Rattle.answer.specs.declared.Answer.{Answer}
-use Rattle.answer.specs.declared.Answer.the-variants.{Done, Text, Range, Relation, Board, Length, Room, Record, Life}
+use Rattle.answer.specs.declared.Answer.the-variants.{Done, Text, Range, Relation, Board, Length, Room, Record, Life, Store}
 use Rattle.answer.specs.Told.{Told, told, succeeded, DONE, unless}
 
 unfoldable answerOf : Told → Answer
 answerOf t =
     let value : ℕ = getD (t .carries) 0 0 in
     let second : ℕ = getD (t .carries) 1 0 in
-    getD (Done ∷ Text value ∷ Range value ∷ Relation value second ∷ Board ∷ Length ∷ Room value ∷ Record value ∷ Life ∷ []) (t .number) Done
+    getD (Done ∷ Text value ∷ Range value ∷ Relation value second ∷ Board ∷ Length ∷ Room value ∷ Record value ∷ Life ∷ Store ∷ []) (t .number) Done
 
 back : (a : Answer) → answerOf (told a) ≡ a
 unfolding answerOf
@@ -27,6 +27,7 @@ back Length = refl
 back (Room needed) = refl
 back (Record index) = refl
 back Life = refl
+back Store = refl
 
 pub told-one : (a b : Answer) → told a ≡ told b → a ≡ b
 told-one a b e = sym (back a) ∙ ap answerOf e ∙ back b
@@ -42,6 +43,7 @@ told-done Length e = absurd (false≢true e)
 told-done (Room needed) e = absurd (false≢true e)
 told-done (Record index) e = absurd (false≢true e)
 told-done Life e = absurd (false≢true e)
+told-done Store e = absurd (false≢true e)
 
 pub not-done : (t : Told) → 0 < t .number → t ≡ DONE → ⊥
 not-done t some e = let z : t .number ≡ 0 = ap (λ (x : Told). x .number) e in omega arith

@@ -4,7 +4,7 @@ use mathlib.Core.List.{List, [], _∷_}
 use Prim.Native.Nat.{ℕ, zero, suc}
 use lib.Dec.{eqb}
 use Rattle.answer.specs.declared.Answer.{Answer}
-use Rattle.answer.specs.declared.Answer.the-variants.{Done, Text, Range, Relation, Board, Length, Room, Record, Life}
+use Rattle.answer.specs.declared.Answer.the-variants.{Done, Text, Range, Relation, Board, Length, Room, Record, Life, Store}
 
 -- what a caller is told: the number of the table, 0 for a success, and the values that it carries
 pub record Told : Type 0 where
@@ -39,6 +39,10 @@ RECORD index = record { number = 7; carries = index ∷ [] }
 abbrev pub LIFE : Told
 LIFE = record { number = 8; carries = [] }
 
+-- document 02, P6
+abbrev pub STORE : Told
+STORE = record { number = 9; carries = [] }
+
 -- the code's answer, as the table has it
 abbrev pub told : Answer → Told
 told Done = DONE
@@ -50,6 +54,7 @@ told Length = LENGTH
 told (Room needed) = ROOM needed
 told (Record index) = RECORD index
 told Life = LIFE
+told Store = STORE
 
 abbrev pub succeeded : Told → Bool
 succeeded t = eqb (t .number) 0

@@ -16,6 +16,7 @@ pub enum Answer {
     // The index of the record in its block, counted from 0.
     Record(usize),
     Life,
+    Store,
 }
 
 impl Answer {
@@ -33,6 +34,7 @@ impl Answer {
             Answer::Room(_) => 6,
             Answer::Record(_) => 7,
             Answer::Life => 8,
+            Answer::Store => 9,
         }
     }
 

@@ -16,93 +16,25 @@ use boards::set_held;
 use boards::set_mark;
 use boards::set_ptc;
 use boards::set_setting;
+use cases::Words;
 use cases::after;
+use cases::at_most;
+use cases::end_line;
 use cases::line_end;
-use cases::say;
 use cases::say_answer;
+use cases::say_comment;
+use cases::say_left;
+use cases::say_written;
+use cases::words_of;
 use libc::STDIN_FILENO;
 use settings::Settings;
-ghost use Prim.Native.Nat.{_<_, _≤_};
+ghost use Prim.Native.Nat.{_≤_};
 ghost use lib.ListN.{length};
 
 // The log that the lines have made: the first `long` bytes.
 struct Log {
     bytes: [u8; 960],
     long: usize,
-}
-
-// A line's letter, or 0, and its numbers.
-struct Words {
-    letter: u8,
-    a: u64,
-    b: u64,
-    c: u64,
-    d: u64,
-}
-
-fn end_line() {
-    say(b"\n");
-}
-
-// One digit more, of at most 18, where it is asked for; what is no digit changes nothing.
-fn longer(value: u64, b: u8, asked: bool) -> u64 {
-    if !asked {
-        return value;
-    }
-    if b < 48 {
-        return value;
-    }
-    if 57 < b {
-        return value;
-    }
-    value % 100000000000000000 * 10 + (b - 48) as u64
-}
-
-fn spaces_in(b: u8) -> usize
-    ensures { λ r. ⌜ r ≤ 1 ⌝ }
-{
-    if b == 32 { 1 } else { 0 }
-}
-
-// The number after `skip` spaces of a line, or 0.
-fn number(line: &[u8], skip: usize) -> u64 {
-    let mut spaces = 0;
-    let mut value: u64 = 0;
-    let mut i = 0;
-    while i < line.len() {
-        value = longer(value, line[i], spaces == skip);
-        spaces += spaces_in(line[i]);
-        i += 1;
-    }
-    value
-}
-
-fn letter(line: &[u8]) -> u8 {
-    if line.len() == 0 { 0 } else { line[0] }
-}
-
-fn words_of(line: &[u8]) -> Words {
-    Words {
-        letter: letter(line),
-        a: number(line, 1),
-        b: number(line, 2),
-        c: number(line, 3),
-        d: number(line, 4),
-    }
-}
-
-fn say_comment(line: &[u8], letter: u8) {
-    if letter == b'#' {
-        say(line);
-        end_line();
-    }
-}
-
-// The number, or the most that it may be.
-fn at_most(n: u64, most: usize) -> usize
-    ensures { λ r. ⌜ r ≤ most ⌝ }
-{
-    if n < most as u64 { n as usize } else { most }
 }
 
 fn rest(kind: u8) -> u8 {
@@ -120,57 +52,6 @@ fn record_of(w: Words) -> [u8; 24] {
     rec
 }
 
-fn hex(n: u8) -> u8
-    requires { ⌜ n < 16 ⌝ }
-{
-    if n < 10 { 48 + n } else { 87 + n }
-}
-
-fn say_byte(b: u8) {
-    let digits = [hex(b / 16), hex(b % 16)];
-    say(&digits);
-}
-
-fn say_gap(k: usize) {
-    if k % 12 == 0 {
-        say(b" ");
-    }
-}
-
-// The rows of 12 bytes that end at a place.
-fn say_rows(rows: &[u8], end: usize)
-    requires { ⌜ end ≤ length (now rows) ⌝ }
-{
-    let mut k = 0;
-    while k < end {
-        say_gap(k);
-        say_byte(rows[k]);
-        k += 1;
-    }
-}
-
-// Whether a rows buffer, which held 170 everywhere, does from a place on.
-fn is_untouched(rows: &[u8], from: usize) -> bool
-    requires { ⌜ from ≤ length (now rows) ⌝ }
-{
-    let mut same = true;
-    let mut k = from;
-    while k < rows.len() {
-        same = same & (rows[k] == 170);
-        k += 1;
-    }
-    same
-}
-
-fn say_left(what: &[u8], same: bool) {
-    say(what);
-    if same {
-        say(b" kept");
-    } else {
-        say(b" changed");
-    }
-}
-
 // Where the rows of a log end, as far as they fit into the room; a refused block writes none.
 fn rows_end(done: bool, long: usize, room: usize) -> usize
     ensures { λ r. ⌜ r ≤ room ⌝ }
@@ -179,20 +60,6 @@ fn rows_end(done: bool, long: usize, room: usize) -> usize
         return at_most(long as u64 / 24, room / 12) * 12;
     }
     0
-}
-
-// The rows that a block wrote, and whether it wrote nothing after them.
-fn say_written(rows: &[u8], done: bool, end: usize)
-    requires { ⌜ end ≤ length (now rows) ⌝ }
-{
-    say_rows(rows, end);
-    let same = is_untouched(rows, end);
-    if done {
-        say_left(b", later bytes", same);
-    } else {
-        say_left(b", rows", same);
-    }
-    end_line();
 }
 
 // Runs a block over the first bytes of a rows buffer, and tells what it left.
@@ -205,7 +72,7 @@ fn run_block(before: Board, log: &[u8], rows: &mut [u8], room: usize) -> Board
     let done = a.is_done();
     say_answer(b"answer ", a);
     say_left(b", board", is_same(before, board));
-    say_written(rows, done, rows_end(done, log.len(), room));
+    say_written(b", rows", rows, done, rows_end(done, log.len(), room), 12);
     board
 }
 

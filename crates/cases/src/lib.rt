@@ -1,6 +1,15 @@
-// What the case programs share: the lines of their input, and how they print texts, numbers and answers.
+// What the case programs share: the lines of their input, and how they print texts, numbers, answers and bytes.
+mod bytes;
+mod line;
+
 use answer::Answer;
+pub use bytes::say_left;
+pub use bytes::say_untouched;
+pub use bytes::say_written;
 use libc::STDOUT_FILENO;
+pub use line::Words;
+pub use line::at_most;
+pub use line::words_of;
 ghost use mathlib.Core.Path.{_≡_};
 ghost use Prim.Native.Nat.{_+_, _≤_, min};
 ghost use lib.ListN.{length};
@@ -9,6 +18,19 @@ ghost use Rattle.cases.specs.Lines.{EndsLine};
 // No contract can say what is printed.
 pub fn say(text: &[u8]) {
     io::write_all(STDOUT_FILENO, text);
+}
+
+// No contract can say what is printed.
+pub fn end_line() {
+    say(b"\n");
+}
+
+// The line, where its letter makes it a comment. No contract can say what is printed.
+pub fn say_comment(line: &[u8], letter: u8) {
+    if letter == b'#' {
+        say(line);
+        end_line();
+    }
 }
 
 // A number after a text. No contract can say what is printed.
@@ -37,6 +59,7 @@ pub fn say_answer(before: &[u8], a: Answer) {
         Answer::Room(needed) => say_carried(needed),
         Answer::Record(index) => say_carried(index),
         Answer::Life => {}
+        Answer::Store => {}
     }
 }
 

@@ -26,7 +26,7 @@ pub fn are_sound(ptcs: [Ptc; 8], holder: u32, m: u64) -> bool
 }
 
 // Controller 0's code 8 sets the orbit count to 0.
-fn orbit_count(first: u8, orbits: u64) -> u64
+pub fn orbit_count(first: u8, orbits: u64) -> u64
     ensures { λ r. ⌜ r ≡ if (eqb (first % 16) 8) 0 orbits ⌝ }
 {
     if first % 16 == 8 { 0 } else { orbits }

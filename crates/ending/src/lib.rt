@@ -1,4 +1,4 @@
-// How a program ends: what it prints of a refusal or an error, and its status, 0 or 1. The language has no exit status, so a
+// How a program ends: what it prints of a refusal or an error, and its status, 0, 1 or 2. The language has no exit status, so a
 // program writes the digit to a descriptor of its own, from which tools/built takes it.
 use answer::Answer;
 use libc::STDERR_FILENO;
@@ -30,6 +30,12 @@ pub fn stop(what: &[u8]) {
 pub fn complain(line: &[u8]) {
     io::write_all(STDERR_FILENO, line);
     io::write_all(STATUS_FILENO, b"1");
+}
+
+// Words that a program was called with and cannot use. No contract can say what is printed.
+pub fn misuse(line: &[u8]) {
+    io::write_all(STDERR_FILENO, line);
+    io::write_all(STATUS_FILENO, b"2");
 }
 
 fn refusal_line(a: Answer) -> bool {

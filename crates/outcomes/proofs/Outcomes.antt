@@ -13,12 +13,23 @@ use Rattle.editions.specs.Read.{ReadOut, readOut}
 use Rattle.editions.specs.Write.{WriteOut, writeOut}
 use Rattle.records.specs.declared.blocks.Tested.{Tested}
 use Rattle.records.specs.support.Blocks.{TestedOut, testedOut}
+use Rattle.history.specs.declared.Store.{Store}
+use Rattle.history.specs.declared.scan.Scan.{Scan}
+use Rattle.history.specs.declared.keep.Pen.{Pen}
+use Rattle.history.specs.Scan.{start, scanned}
+use Rattle.history.specs.Store.{kept}
+use Rattle.history.specs.Read.{ReadOut as HistoryOut, readOut as historyOut}
+use Rattle.history.specs.support.Pen.{storeAt, Aligned}
+use Rattle.follower.specs.declared.Follower.{Follower}
+use Rattle.follower.specs.declared.Followed.{Followed}
 use Rattle.board.specs.declared.Board.{Board}
 use Rattle.board.specs.declared.Made.{Made}
 use Rattle.board.specs.declared.Ran.{Ran}
 use Rattle.board.specs.Fresh.{MadeOut, madeOut}
 use Rattle.board.specs.Block.{RanOut, ranOut}
 use Rattle.report.specs.Report.{ReportOut, reportOut}
+use Rattle.beside.specs.declared.Beside.{Beside}
+use Rattle.beside.specs.Beside.{BesideOut, besideOut}
 use Rattle.outcomes.specs.Outcomes.{One, OneOutcome}
 
 -- ---- equations of the result and of what was lent
@@ -85,6 +96,31 @@ one-report : (d : ReportOut) → One (λ (o : Answer × List ℕ). reportOut (o 
 one-report d a b p q =
     beside (λ (z : Answer) (s : List ℕ). (z, s)) (a .0) (b .0) (a .1) (b .1) (ap (λ (o : ReportOut). (o .answer, o .buffer)) (p ∙ sym q))
 
+one-read-out : (d : HistoryOut) → One (λ (o : Answer × List ℕ). historyOut (o .0) (o .1) ≡ d)
+one-read-out d a b p q =
+    beside (λ (z : Answer) (s : List ℕ). (z, s)) (a .0) (b .0) (a .1) (b .1) (ap (λ (o : HistoryOut). (o .answer, o .buffer)) (p ∙ sym q))
+
+one-beside : (d : BesideOut) → One (λ (o : Beside × List ℕ). besideOut (o .0) (o .1) ≡ d)
+one-beside d a b p q =
+    beside (λ (z : Answer) (s : Board × (Store × List ℕ)). (record { answer = z; board = s .0; store = s .1 .0 }, s .1 .1)) (a .0 .answer) (b .0 .answer)
+    (a .0 .board, (a .0 .store, a .1)) (b .0 .board, (b .0 .store, b .1))
+    (ap (λ (o : BesideOut). (o .answer, (o .board, (o .store, o .rows)))) (p ∙ sym q))
+
+-- ---- a pen and its words, by the store that they stand for and its scan
+
+one-pen : (p q : Pen) (ws vs : List ℕ) → storeAt ws p ≡ storeAt vs q → Aligned ws p → Aligned vs q → _≡_ {A = Pen × List ℕ} (p, ws) (q, vs)
+one-pen p q ws vs e a b =
+    let scan = a .scan ∙ ap (λ (s : Store). scanned start (kept s)) e ∙ sym (b .scan) in
+    ap₂ (λ (s : Store) (c : Scan). (record { oldest = s .oldest; used = s .used; scan = c }, s .words)) e scan
+
+one-kept : (d : Store) → One (λ (o : Pen × List ℕ). (storeAt (o .1) (o .0) ≡ d) × Aligned (o .1) (o .0))
+one-kept d a b p q = one-pen (a .0) (b .0) (a .1) (b .1) (p .0 ∙ sym (q .0)) (p .1) (q .1)
+
+one-followed : (f : Follower) (d : Store) → One (λ (o : Followed × List ℕ). (o .0 .follower ≡ f) × (storeAt (o .1) (o .0 .pen) ≡ d) × Aligned (o .1) (o .0 .pen))
+one-followed f d a b p q =
+    ap₂ (λ (g : Follower) (s : Pen × List ℕ). (record { follower = g; pen = s .0 }, s .1)) (p .0 ∙ sym (q .0))
+    (one-pen (a .0 .pen) (b .0 .pen) (a .1) (b .1) (p .1 ∙ sym (q .1)) (p .2) (q .2))
+
 pub one-outcome : OneOutcome
 one-outcome =
     record {
@@ -95,11 +131,17 @@ one-outcome =
       block = λ κs board log rows. one-ran _;
       is-sound = λ board. known _;
       report = λ κs board buffer. one-report _;
+      fresh-store = known _;
+      is-sound-store = λ store. known _;
+      read-out = λ κs store buffer. one-read-out _;
+      beside = λ κs board store input log rows. one-beside _;
       opened = λ κs text. one-made _;
       run-blocks = λ κs board log rows. one-ran _;
       report-length = λ board. known _;
       standard = known _;
       settings-length = λ s. known _;
+      read-length = λ store. known _;
+      keep-if = λ κs a board store input log rows. bounded _ _;
       number = λ a. known _;
       is-done = λ a. known _;
       refusal = λ κs done log room. told-known _;
@@ -117,6 +159,10 @@ one-outcome =
       fault = λ f. told-known _;
       put-row = λ κs buffer row. filled _;
       pass = λ κs ring c x. filled _;
+      code = λ carried believed now. bounded _ _;
+      code-at = λ κs codes input. bounded _ _;
+      keep = λ κs pen words c. one-kept _;
+      crossed = λ κs f words pen orbit marker code first. one-followed _ _;
       is-firm = λ κs carried believed. given _ _ _;
       follow = λ κs carried believed firm codes. held _ _ _;
       first-sight = λ κs turn table carried believed. given _ _ _;

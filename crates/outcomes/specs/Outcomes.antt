@@ -12,6 +12,10 @@ use Rattle.settings.specs.declared.Settings.{Settings}
 use Rattle.settings.specs.declared.relations.Fault.{Fault}
 use Rattle.clock.specs.declared.Clock.{Clock}
 use Rattle.clock.specs.declared.Turn.{Turn}
+use Rattle.history.specs.declared.Store.{Store}
+use Rattle.history.specs.declared.keep.Change.{Change}
+use Rattle.history.specs.declared.keep.Pen.{Pen}
+use Rattle.follower.specs.declared.Follower.{Follower}
 use Rattle.still.specs.declared.Sight.{Sight}
 use Rattle.board.specs.declared.Board.{Board}
 use Rattle.answer.proofs.Answer.number.Reads as number-contract
@@ -31,12 +35,20 @@ use Rattle.settings.proofs.relations.Fault.told.Reads as fault-contract
 use Rattle.editions.proofs.read_text.Reads as read-contract
 use Rattle.editions.proofs.write_text.Reads as write-contract
 use Rattle.editions.proofs.text_length.Reads as settings-length-contract
+use Rattle.steady.proofs.code.Reads as code-contract
 use Rattle.steady.proofs.is_firm.Reads as is-firm-contract
 use Rattle.steady.proofs.follow.Reads as follow-contract
 use Rattle.throttle.proofs.pass.Reads as pass-contract
 use Rattle.records.proofs.refusal.Reads as refusal-contract
 use Rattle.records.proofs.test_blocks.Reads as test-blocks-contract
 use Rattle.records.proofs.put_row.Reads as put-row-contract
+use Rattle.history.proofs.Store.fresh.Reads as fresh-store-contract
+use Rattle.history.proofs.Store.is_sound.Reads as is-sound-store-contract
+use Rattle.history.proofs.Store.read.Reads as read-out-contract
+use Rattle.history.proofs.Store.read_length.Reads as read-length-contract
+use Rattle.history.proofs.keep.Pen.keep.Reads as keep-contract
+use Rattle.follower.proofs.code_at.Reads as code-at-contract
+use Rattle.follower.proofs.Follower.crossed.Reads as crossed-contract
 use Rattle.still.proofs.Sight.first.Reads as first-contract
 use Rattle.still.proofs.Sight.next.Reads as next-contract
 use Rattle.board.proofs.Board.fresh.Reads as fresh-contract
@@ -47,6 +59,8 @@ use Rattle.report.proofs.write.Reads as report-contract
 use Rattle.report.proofs.text_length.Reads as report-length-contract
 use Rattle.replay.proofs.opened.Reads as opened-contract
 use Rattle.replay.proofs.run_blocks.Reads as run-blocks-contract
+use Rattle.beside.proofs.block.Reads as beside-contract
+use Rattle.beside.proofs.keep_if.Reads as keep-if-contract
 
 -- at most one outcome is permitted
 abbrev pub One : {Out : Type 0} → (Out → Type 0) → Type 0
@@ -79,12 +93,21 @@ pub record OneOutcome : Type 0 where
   pub block : (κs : Lfts 2) (board : Board) (log rows : Lent) → OneFilling (block-contract.Post κs) (λ out. (board, (log, (out, tt)))) rows
   pub is-sound : (board : Board) → OneValue (is-sound-contract.Post tt) (board, tt)
   pub report : (κs : Lfts 1) (board : Board) (buffer : Lent) → OneFilling (report-contract.Post κs) (λ out. (board, (out, tt))) buffer
+  -- document 02, P6
+  pub fresh-store : OneValue (fresh-store-contract.Post tt) tt
+  pub is-sound-store : (store : Store) → OneValue (is-sound-store-contract.Post tt) (store, tt)
+  pub read-out : (κs : Lfts 1) (store : Store) (buffer : Lent) → OneFilling (read-out-contract.Post κs) (λ out. (store, (out, tt))) buffer
+  pub beside : (κs : Lfts 2) (board : Board) (store : Store) (input : ℕ) (log rows : Lent)
+      → OneFilling (beside-contract.Post κs) (λ out. (board, (store, (input, (log, (out, tt)))))) rows
   -- what else the programs call
   pub opened : (κs : Lfts 1) (text : Lent) → OneValue (opened-contract.Post κs) (text, tt)
   pub run-blocks : (κs : Lfts 2) (board : Board) (log rows : Lent) → OneFilling (run-blocks-contract.Post κs) (λ out. (board, (log, (out, tt)))) rows
   pub report-length : (board : Board) → OneValue (report-length-contract.Post tt) (board, tt)
   pub standard : OneValue (standard-contract.Post tt) tt
   pub settings-length : (s : Settings) → OneValue (settings-length-contract.Post tt) (s, tt)
+  pub read-length : (store : Store) → OneValue (read-length-contract.Post tt) (store, tt)
+  pub keep-if : (κs : Lfts 2) (a : Answer) (board : Board) (store : Store) (input : ℕ) (log rows : Lent)
+      → OneValue (keep-if-contract.Post κs) (a, (board, (store, (input, (log, (rows, tt))))))
   pub number : (a : Answer) → OneValue (number-contract.Post tt) (a, tt)
   pub is-done : (a : Answer) → OneValue (is-done-contract.Post tt) (a, tt)
   -- every other public function of the library whose `ensures` is no plain equation of the result
@@ -105,6 +128,11 @@ pub record OneOutcome : Type 0 where
   pub fault : (f : Fault) → OneValue (fault-contract.Post tt) (f, tt)
   pub put-row : (κs : Lfts 1) (buffer : Lent) (row : List ℕ) → OneFilling (put-row-contract.Post κs) (λ out. (out, (row, tt))) buffer
   pub pass : (κs : Lfts 1) (ring : Lent) (c x : ℕ) → OneFilling (pass-contract.Post κs) (λ marks. (marks, (c, (x, tt)))) ring
+  pub code : (carried believed now : ℕ) → OneValue (code-contract.Post tt) (carried, (believed, (now, tt)))
+  pub code-at : (κs : Lfts 1) (codes : Lent) (input : ℕ) → OneValue (code-at-contract.Post κs) (codes, (input, tt))
+  pub keep : (κs : Lfts 1) (pen : Pen) (words : Lent) (c : Change) → OneFilling (keep-contract.Post κs) (λ ws. (pen, (ws, (c, tt)))) words
+  pub crossed : (κs : Lfts 1) (f : Follower) (words : Lent) (pen : Pen) (orbit : ℕ) (marker : Bool) (code first : ℕ)
+      → OneFilling (crossed-contract.Post κs) (λ ws. (f, (ws, (pen, (orbit, (marker, (code, (first, tt)))))))) words
   pub is-firm : (κs : Lfts 2) (carried believed : Lent) → OneValue (is-firm-contract.Post κs) (carried, (believed, tt))
   pub follow : (κs : Lfts 3) (carried believed : Lent) (firm : Bool) (codes : Lent)
       → OneHolding (follow-contract.Post κs) (λ c b. (c, (b, (firm, (codes, tt))))) carried believed

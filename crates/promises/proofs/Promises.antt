@@ -17,6 +17,8 @@ use Rattle.steady.proofs.Laws.{all-held}
 use Rattle.bounce.proofs.Holds.{holding}
 use Rattle.bounce.proofs.Bounce.{bounce, never-twice}
 use Rattle.bounce.proofs.Sample.{sample}
+use Rattle.recall.proofs.Blocks.{beside-cut}
+use Rattle.recall.proofs.Recall.{store-changes-nothing, recall}
 use Rattle.slots.proofs.Slots.{slots}
 use Rattle.slots.proofs.Rounds.{rounds}
 use Rattle.programs.proofs.Programs.{no-empty-program}
@@ -46,5 +48,8 @@ promises =
       sample = sample;
       as-before = as-before;
       stopped = stopped;
+      store-changes-nothing = store-changes-nothing;
+      beside-cut = beside-cut;
+      recall = recall;
       no-empty-program = no-empty-program;
     }

@@ -6,11 +6,11 @@ use mathlib.Core.Bool.{true, false, false≢true}
 use mathlib.Core.List.{List, [], _∷_}
 use Prim.Native.Nat.{ℕ, _≤_}
 use native.Mathlib.Omega.{arith}
-use lib.Dec.{eqb}
+use lib.Dec.{leb, eqb}
 use lib.ListN.{length}
 use Rattle.laws.proofs.Tests.{either}
 use Rattle.answer.specs.declared.Answer.{Answer}
-use Rattle.answer.specs.declared.Answer.the-variants.{Done, Text, Range, Relation, Board, Length, Room, Record, Life}
+use Rattle.answer.specs.declared.Answer.the-variants.{Done, Text, Range, Relation, Board, Length, Room, Record, Life, Store as StoreRefused}
 use Rattle.answer.specs.Told.{Told, told, succeeded}
 use Rattle.text.specs.Lines.{Lines, all, textAt, rangeAt, readLines}
 use Rattle.keys.specs.Settings.{tableOf}
@@ -19,14 +19,18 @@ use Rattle.settings.specs.Relations.{relation, related}
 use Rattle.settings.specs.Standard.{standard}
 use Rattle.editions.specs.Read.{editionOf, laidOut, settled, tested, concluded, readText}
 use Rattle.editions.specs.Write.{written}
+use Rattle.history.specs.declared.Store.{Store}
+use Rattle.history.specs.Store.{soundStore}
+use Rattle.history.specs.Read.{readBytes, readOf}
 use Rattle.board.specs.declared.Board.{Board as BoardValue}
 use Rattle.board.specs.Fresh.{freshOf}
 use Rattle.board.specs.Block.{answerOf, blockOf}
 use Rattle.board.proofs.Answers.{block-answer}
 use Rattle.report.specs.Report.{reported}
+use Rattle.beside.specs.Beside.{besideAnswer, besideOf}
 use Rattle.promises.specs.Refusals.{Refusals}
 
-numbered : (a : Answer) → told a .number ≤ 8
+numbered : (a : Answer) → told a .number ≤ 9
 numbered Done = omega arith
 numbered (Text line) = omega arith
 numbered (Range line) = omega arith
@@ -36,6 +40,7 @@ numbered Length = omega arith
 numbered (Room needed) = omega arith
 numbered (Record index) = omega arith
 numbered Life = omega arith
+numbered StoreRefused = omega arith
 
 -- a block's answer is the same on both ways, so it says which was taken
 module _ (b : BoardValue) (log rows : List ℕ) (e : succeeded (blockOf b log rows .answer) ≡ false) where
@@ -49,6 +54,31 @@ module _ (b : BoardValue) (log rows : List ℕ) (e : succeeded (blockOf b log ro
   block-rows : blockOf b log rows .rows ≡ rows
   unfolding blockOf
   block-rows = rw stopped
+
+-- with a store beside it: its own refusals give back what came in, and so does a refused block
+module _ (b : BoardValue) (s : Store) (x : ℕ) (log rows : List ℕ) where
+  beside-refused : succeeded (besideOf b s x log rows .answer) ≡ false
+      → besideOf b s x log rows ≡ record { answer = besideOf b s x log rows .answer; board = b; store = s; rows = rows }
+  unfolding besideOf
+  beside-refused e =
+      ⊎-elim
+      (λ (ok : succeeded (besideAnswer b s x) ≡ true).
+      let off : succeeded (blockOf b log rows .answer) ≡ false = rw ok at e in
+      rw (ok, off, block-board b log rows off, block-rows b log rows off))
+      (λ (off : succeeded (besideAnswer b s x) ≡ false). rw off)
+      (either (succeeded (besideAnswer b s x)))
+
+read-refused : (s : Store) (buffer : List ℕ) → succeeded (readOf s buffer .answer) ≡ false → readOf s buffer .buffer ≡ buffer
+unfolding readOf
+read-refused s buffer e =
+    ⊎-elim
+    (λ (ok : soundStore s ≡ true).
+    ⊎-elim
+    (λ (fits : leb (length (readBytes s)) (length buffer) ≡ true). absurd (false≢true (sym (rw (ok, fits) at e))))
+    (λ (off : leb (length (readBytes s)) (length buffer) ≡ false). rw (ok, off))
+    (either (leb (length (readBytes s)) (length buffer))))
+    (λ (off : soundStore s ≡ false). rw off)
+    (either (soundStore s))
 
 tested-refused : (s : Settings) (a : Told) → succeeded (tested s a .answer) ≡ false → tested s a .settings ≡ standard
 tested-refused s a e =
@@ -78,6 +108,8 @@ refusals =
       numbered = numbered;
       block-board = block-board;
       block-rows = block-rows;
+      beside = beside-refused;
+      read-out = read-refused;
       writing = λ s buffer e. rw e;
       report = λ b buffer e. rw e;
       reading = reading-refused;

@@ -23,6 +23,7 @@ use Rattle.pieces.specs.Printing.{Printing}
 use Rattle.steady.specs.Held.{AllHeld}
 use Rattle.bounce.specs.Input.{Holding}
 use Rattle.bounce.specs.Bounce.{Bounce, NeverTwice, Sample}
+use Rattle.recall.specs.Recall.{StoreChangesNothing, BesideCut, Recall}
 use Rattle.slots.specs.Slots.{Slots}
 use Rattle.slots.specs.Rounds.{Rounds}
 use Rattle.programs.specs.Programs.{NoEmptyProgram}
@@ -79,5 +80,10 @@ pub record Promises : Type 0 where
   -- document 02, P2 and P3: text of the older editions runs as before; where it stopped triggers under warning none is sent there
   pub as-before : AsBefore
   pub stopped : Stopped
+  -- document 02, P6: a store beside the board changes nothing, any blocks give the uncut log's store, and what it tells are the last changes
+  -- of the input's believed code
+  pub store-changes-nothing : StoreChangesNothing
+  pub beside-cut : BesideCut
+  pub recall : Recall
   -- and no program without work meets the contracts
   pub no-empty-program : NoEmptyProgram

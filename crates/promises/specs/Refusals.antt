@@ -10,19 +10,26 @@ use Rattle.settings.specs.declared.Settings.{Settings}
 use Rattle.settings.specs.Standard.{standard}
 use Rattle.editions.specs.Read.{readText}
 use Rattle.editions.specs.Write.{written}
+use Rattle.history.specs.declared.Store.{Store}
+use Rattle.history.specs.Read.{readOf}
 use Rattle.board.specs.declared.Board.{Board}
 use Rattle.board.specs.Fresh.{freshBoard, freshOf}
 use Rattle.board.specs.Block.{blockOf}
 use Rattle.report.specs.Report.{reported}
+use Rattle.beside.specs.Beside.{besideOf}
 
 pub record Refusals : Type 0 where
-  -- an answer is a success, or one of the eight
-  pub numbered : (a : Answer) → told a .number ≤ 8
+  -- an answer is a success, or one of the nine
+  pub numbered : (a : Answer) → told a .number ≤ 9
   -- a refused block: the same board, the same bytes
   pub block-board : (b : Board) (log rows : List ℕ) → succeeded (blockOf b log rows .answer) ≡ false → blockOf b log rows .board ≡ b
   pub block-rows : (b : Board) (log rows : List ℕ) → succeeded (blockOf b log rows .answer) ≡ false → blockOf b log rows .rows ≡ rows
   pub writing : (s : Settings) (buffer : List ℕ) → succeeded (written s buffer .answer) ≡ false → written s buffer .buffer ≡ buffer
   pub report : (b : Board) (buffer : List ℕ) → succeeded (reported b buffer .answer) ≡ false → reported b buffer .buffer ≡ buffer
+  -- document 02, P6: with a store beside it, the same board, the same store, the same bytes
+  pub beside : (b : Board) (s : Store) (x : ℕ) (log rows : List ℕ) → succeeded (besideOf b s x log rows .answer) ≡ false
+      → besideOf b s x log rows ≡ record { answer = besideOf b s x log rows .answer; board = b; store = s; rows = rows }
+  pub read-out : (s : Store) (buffer : List ℕ) → succeeded (readOf s buffer .answer) ≡ false → readOf s buffer .buffer ≡ buffer
   -- a refused reading gives the standard values, a refused fresh board the one made from them
   pub reading : (text : List ℕ) → succeeded (readText text .answer) ≡ false → readText text .settings ≡ standard
   pub fresh : (s : Settings) → succeeded (freshOf s .answer) ≡ false → freshOf s .board ≡ freshBoard standard

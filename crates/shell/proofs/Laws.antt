@@ -33,7 +33,7 @@ unfolding replayed inBlocks
 start b = record { log = []; whole = refl; done = refl; board = refl }
 
 -- what a full piece is
-full-piece : (failed : Bool) (n : ℕ) (a : Told) → isFull failed n a ≡ true → (failed ≡ false) × (61440 ≤ n) × (succeeded a ≡ true)
+pub full-piece : (failed : Bool) (n : ℕ) (a : Told) → isFull failed n a ≡ true → (failed ≡ false) × (61440 ≤ n) × (succeeded a ≡ true)
 full-piece true n a e = absurd (false≢true e)
 full-piece false n a e = let way = if-no (ltb n 61440) false (succeeded a) true e false≢true in (refl, ltb-false n 61440 (way .0), way .1)
 
@@ -43,7 +43,7 @@ module _ (fresh b : Board) (so : SoFar fresh b) where
 
   -- n bytes were read into a piece's room
   module _ (long : length (fresh .ptcs) ≡ 8) (n : ℕ) (bytes rows : List ℕ) (fits : length bytes ≡ 61440) (room : length rows ≡ 30720) where
-    more : OneMore fresh (so .log) (take n bytes) (inBlocks (blocksIn (take n bytes)) b (take n bytes) rows)
+    pub more : OneMore fresh (so .log) (take n bytes) (inBlocks (blocksIn (take n bytes)) b (take n bytes) rows)
     more =
         let space : 12 * recordsIn (take n bytes) ≤ length rows = rw length-take (omega arith) in
         rw (so .board) at (one-more fresh (so .log) (take n bytes) rows long (λ some. so .whole) (so .done) space)

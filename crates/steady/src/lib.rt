@@ -14,7 +14,7 @@ pub struct Held {
     pub believed: [u8; 21],
 }
 
-fn code(carried: u8, believed: u8, now: u8) -> u8
+pub fn code(carried: u8, believed: u8, now: u8) -> u8
     requires { ⌜ (believed < 16) × (now < 16) ⌝ }
     ensures { λ r. ⌜ (r ≡ steady carried believed now) × (r < 16) ⌝ }
 {

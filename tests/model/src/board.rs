@@ -69,9 +69,9 @@ pub struct Did {
     pub calibration: Option<Result<(), Lost>>,
 }
 
-/// What a record did. `handed` holds the holders before and after a hand-over.
+/// What a record did. `orbit` is the count that step 1 leaves (document 02, P6), `handed` the holders before and after a hand-over.
 pub enum Done {
-    Crossing { marker: bool, expected: usize, number: usize, handed: Option<(usize, usize)>, did: Vec<Did> },
+    Crossing { marker: bool, expected: usize, number: usize, orbit: usize, handed: Option<(usize, usize)>, did: Vec<Did> },
     Command { command: u8, taken: bool, dropped: bool },
 }
 
@@ -101,7 +101,7 @@ impl Board {
         let had: Vec<Cycle> = self.controllers.iter().map(|controller| controller.cycle).collect();
         let (number, handed) = self.number(marker);
         self.held.crossing(record);
-        let mut did = Vec::new();
+        let (orbit, mut did) = (self.orbit, Vec::new());
         for (n, had) in had.into_iter().enumerate() {
             let merged = merge(&self.settings, &self.held.believed, n);
             let code = self.move_once(n, number, merged);
@@ -112,7 +112,7 @@ impl Board {
             self.cycle_then_trigger(n, number, (record[2] >> n) & 1 == 1, did);
         }
         self.crossings += 1;
-        Done::Crossing { marker, expected, number, handed, did }
+        Done::Crossing { marker, expected, number, orbit, handed, did }
     }
 
     /// "After orbit − 1 comes 0. A marker makes this crossing 0; if another was expected, `bc_errors` grows by 1. At a number 0,

@@ -1,7 +1,10 @@
-//! How often a range of seeds meets each thing that document 01 names, and document 02 up to P5: the texts are counted in
-//! `cover_texts.rs`, what P2 adds to the runs in `cover_schedules.rs`, what P3 adds in `cover_older.rs`, P5 in `cover_rules.rs`.
+//! How often a range of seeds meets each thing that document 01 names, and document 02 up to P6: the texts are counted in
+//! `cover_texts.rs`, what P2 adds to the runs in `cover_schedules.rs`, what P3 adds in `cover_older.rs`, P5 in `cover_rules.rs`, P6
+//! in `cover_history.rs`.
 
 use crate::board::{Board, Cycle, Did, Done, THROTTLE};
+use crate::cover_groups::GROUPS;
+use crate::cover_history::Histories;
 use crate::cover_older::Source;
 use crate::cover_rules::Rules;
 use crate::cover_schedules::Calibrations;
@@ -10,71 +13,6 @@ use crate::merge::{class, ignored, members, merge, Merged};
 use crate::program::{run, BLOCK, BYTES};
 use crate::refusal::Refusal;
 use crate::steady::{Held, INPUTS};
-
-/// Groups of rows with their items, counted by place; a dash is a place that cannot come. A group without items is a row itself.
-const GROUPS: [(&str, &str); 61] = [
-    ("state", "0 1 2 3 4 5 6 7 8 9 10 11 12 13 14 15 16 17 18 19"),
-    ("merged", "none ready warning busy out_of_sync error bad disconnected"),
-    ("ignored", "bad disconnected"),
-    ("code_11", "below_24 from_24 no_partition"),
-    ("lost", "state slot gap cal throttle"),
-    ("sent", "READY WARN calibration"),
-    ("code", "- 1 2 - - 5 6 7 8 9 10 11 - 13"),
-    ("first_in_READY", "rule_1 rule_2 rule_3 rule_4"),
-    ("first_in_WARN", "rule_1 rule_2 rule_3 rule_4"),
-    ("cal_lost", "rule_1 rule_2 rule_3 rule_4"),
-    ("taken", "- START STOP HARD RESYNC CALIBRATE PANIC"),
-    ("not_taken", "- START STOP HARD RESYNC CALIBRATE -"),
-    ("dropped", "move command slot"),
-    ("kept", "armed_without_slot open_to_itself"),
-    ("hand_over", "to_another to_itself orbit_with_holder_8"),
-    ("zero", "free marker_expected marker_elsewhere"),
-    ("refused", "- TEXT RANGE RELATION - LENGTH - RECORD TEXT_tail"),
-    ("relation", "- 1 2 3 4 5"),
-    ("believed", "new over_block_end over_command over_marker"),
-    ("bounce", "not_believed back at_block_end past_state_9"),
-    ("alternating", ""),
-    ("disconnected", "0_then_15"),
-    ("fresh", "0_decides"),
-    ("read", "- edition_1 edition_2 edition_3"),
-    ("no_edition", "empty 1 02 99999 2_without_newline 3_without_newline 4 other"),
-    ("TEXT", "- edition_1 edition_2 edition_3"),
-    ("tail", "- edition_1 edition_2 edition_3"),
-    ("RANGE_shared", "- edition_1 edition_2 edition_3"),
-    ("RANGE_of_schedule", "- edition_1 edition_2 edition_3"),
-    ("key", "of_a_later_edition_in_1 of_edition_1_in_2 of_edition_1_in_3 of_another_controller"),
-    ("relation_above_0", "- - 2 3 4"),
-    ("relation_first", "before_later_at_lower before_same_at_higher"),
-    ("edition_1_sent", "request calibration"),
-    ("own_number", "- 1 2 - - 5 6 7 - 9 10 11 - 13 calibration"),
-    ("own_number_without_slot", "- 1 - - - - - - - - - 11"),
-    ("passed", "wte_of_0 te_of_0 cal_of_0"),
-    ("calibrations", "asked_apart sent_apart at_te_of_another at_wte_of_another"),
-    ("warn_blocks_0", "- read_in_1 read_in_2"),
-    ("warn_blocks_1", "- read_in_1 read_in_2"),
-    ("warn_blocks_RANGE", "- in_1 in_2"),
-    ("warn_blocks_ill_formed", "- in_1 in_2"),
-    ("warn_blocks_missing", "- in_1 in_2"),
-    ("warn_blocks_key", "- - - in_3"),
-    ("relation_5", "- under_1_in_1 under_1_in_2 in_3"),
-    ("stopped_request", "- in_1 in_2"),
-    ("stopped_calibration", "- in_1 in_2"),
-    ("stopped_by_0_in_3", "request calibration"),
-    ("sent_in_WARN", "- in_1 in_2 in_3"),
-    ("sent_in_READY_under_1", "- in_1 in_2"),
-    ("lost_in_READY", "r1 r2 r3 r4"),
-    ("lost_in_WARN", "r1 r2 r3 r4"),
-    ("before_later_rules", "r1 r2 r3"),
-    ("alone", "r1 r2 r3 r4"),
-    ("previous_holder_counts", "r1 r2 r3 r4"),
-    ("previous_holder_decides", "r1 r2 r3 r4"),
-    ("limits_after_move", "to_READY to_WARN"),
-    ("lost_in_WARN_under_1", "- r1_in_1 r1_in_2 - r2_in_1 r2_in_2"),
-    ("cal_not_split", "r1 r2 r3 r4"),
-    ("cleared", "r1 r2 r3 r4"),
-    ("reported", "r1 r2 r3 r4 all_four"),
-    ("reported_without_cal_lost", "r1 r2 r3 r4"),
-];
 
 /// Counts by group and item.
 pub struct Table([[u64; 20]; GROUPS.len()]);
@@ -94,14 +32,19 @@ pub fn cover(kind: &str, from: usize, to: usize) -> Option<String> {
             let (text, log) = generate(kind, seed)?;
             let mut before = Before { held: Held::all(0), records: 0, last_crossing: 0 };
             let (mut calibrations, source, mut rules) = (Calibrations::of(&text), Source::of(&text), Rules::default());
+            let mut histories = Histories::fresh();
             let mut watch = |board: &Board, done: &Done| {
                 table.record(&mut before, board, done);
                 table.schedules(&mut calibrations, board, done);
                 source.iter().for_each(|source| table.under_warning(source, board, done));
                 table.rules(&mut rules, board, done);
+                table.histories(&mut histories, board, done);
             };
             match run(&text, &log, &mut watch) {
-                Ok((board, _)) => table.reported(&rules, &board),
+                Ok((board, _)) => {
+                    table.reported(&rules, &board);
+                    table.read_outs(&histories);
+                }
                 Err(refusal) => table.refusal(refusal),
             }
             table.text(&text);
@@ -202,7 +145,7 @@ impl Table {
     }
 
     fn crossing(&mut self, board: &Board, done: &Done) {
-        let Done::Crossing { marker, expected, number, handed, did } = done else { return };
+        let Done::Crossing { marker, expected, number, handed, did, .. } = done else { return };
         if *number == 0 {
             self.add("zero", usize::from(*marker) + usize::from(*expected != 0));
         }

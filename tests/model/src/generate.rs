@@ -4,9 +4,9 @@ use crate::edition::{Edition, Own};
 use crate::journal::{log, Manner};
 use crate::schedules::{resync_first, schedules, standard};
 use crate::settings::*;
-use crate::{damage_log, damage_text, rules};
+use crate::{damage_log, damage_text, history, rules};
 
-pub const KINDS: [&str; 6] = ["valid", "edge", "text", "log", "standard", "rules"];
+pub const KINDS: [&str; 7] = ["valid", "edge", "text", "log", "standard", "rules", "history"];
 
 /// A xorshift generator (Marsaglia), of which the upper bits are used.
 pub struct Random(u64);
@@ -29,17 +29,22 @@ impl Random {
     }
 }
 
-/// The settings text, in each edition for every third seed, and the log of a seed, or nothing for an unknown kind. `rules` came
-/// later; it starts elsewhere, so that the cases of the other kinds stay as they were.
+/// The settings text, in each edition for every third seed, and the log of a seed, or nothing for an unknown kind. `rules` and
+/// `history` came later; they start elsewhere, so that the cases of the other kinds stay as they were.
 pub fn generate(kind: &str, seed: usize) -> Option<(Vec<u8>, Vec<u8>)> {
     let place = KINDS.iter().position(|known| *known == kind)?;
-    let start = if kind == "rules" { usize::MAX - seed } else { seed * 5 + place + 1 };
+    let start = match kind {
+        "rules" => usize::MAX - seed,
+        "history" => usize::MAX / 2 - seed,
+        _ => seed * 5 + place + 1,
+    };
     let random = &mut Random(start.wrapping_mul(0x9E37_79B9_7F4A_7C15) as u64 | 1);
     let edition = [Edition::First, Edition::Second, Edition::Third][seed % 3];
-    if kind == "rules" {
-        let settings = rules::settings(random, edition);
+    if kind == "rules" || kind == "history" {
+        let settings = if kind == "rules" { rules::settings(random, edition) } else { history::settings(random, edition) };
         let own = under_warning(random, edition, settings);
-        return Some((edition.text(&own).into_bytes(), rules::log(random, &own.retire())));
+        let log = if kind == "rules" { rules::log(random, &own.retire()) } else { history::log(random, &own.retire()) };
+        return Some((edition.text(&own).into_bytes(), log));
     }
     let (settings, manner, records) = match kind {
         "valid" => (short(random, edition), Manner::Lively, 1000 + random.below(5000)),

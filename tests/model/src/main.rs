@@ -1,14 +1,19 @@
-//! An independent model of document 01 (the trigger desk) and document 02 up to P5, to test the product against. See README.md.
+//! An independent model of document 01 (the trigger desk) and document 02 up to P6, to test the product against. See README.md.
 
 mod board;
 mod check;
 mod check_editions;
+mod check_history;
 mod check_older;
 mod check_rules;
 mod check_schedules;
+mod check_sound;
 mod check_split;
 mod check_steady;
+mod check_store;
 mod cover;
+mod cover_groups;
+mod cover_history;
 mod cover_older;
 mod cover_rules;
 mod cover_schedules;
@@ -18,6 +23,7 @@ mod damage_text;
 mod damage_values;
 mod edition;
 mod generate;
+mod history;
 mod journal;
 mod merge;
 mod older;
@@ -27,15 +33,17 @@ mod report;
 mod rules;
 mod schedules;
 mod settings;
+mod sound;
 mod steady;
+mod store;
 mod trigger;
 
 use std::io::Write;
 use std::process::ExitCode;
 use std::{env, fs};
 
-const USAGE: &str =
-    "model report DIR | rows DIR | edition DIR | refusal DIR | generate KIND SEED DIR | cover KIND|all FROM TO | check";
+const USAGE: &str = "model report DIR | rows DIR | edition DIR | history DIR INPUT | refusal DIR | generate KIND SEED DIR | \
+    cover KIND|all FROM TO | check";
 
 fn main() -> ExitCode {
     let arguments: Vec<String> = env::args().skip(1).collect();
@@ -44,6 +52,7 @@ fn main() -> ExitCode {
         ["report", dir] => Some(run(dir, |board, _| report::report(board).into_bytes())),
         ["rows", dir] => Some(run(dir, |_, rows| rows)),
         ["edition", dir] => Some(program::edition(&board_set(dir)).into_bytes()),
+        ["history", dir, input] => input.parse().ok().map(|input| program::history(&board_set(dir), &run_rec(dir), input)),
         ["refusal", dir] => Some(refusal(dir).into_bytes()),
         ["generate", kind, seed, dir] => seed.parse().ok().and_then(|seed| generate(kind, seed, dir)),
         ["cover", kind, from, to] => cover(kind, from, to),
@@ -63,8 +72,7 @@ fn main() -> ExitCode {
 /// "A program reads `board.set` and `run.rec` (one that can't be opened reads as empty) and prints the report, or
 /// `refused=N` and a newline with the first refusal's number and nothing else."
 fn run(dir: &str, print: fn(&board::Board, Vec<u8>) -> Vec<u8>) -> Vec<u8> {
-    let log = fs::read(format!("{dir}/run.rec")).unwrap_or_default();
-    match program::run(&board_set(dir), &log, &mut |_, _| {}) {
+    match program::run(&board_set(dir), &run_rec(dir), &mut |_, _| {}) {
         Ok((board, rows)) => print(&board, rows),
         Err(refusal) => program::refused(refusal).into_bytes(),
     }
@@ -72,6 +80,10 @@ fn run(dir: &str, print: fn(&board::Board, Vec<u8>) -> Vec<u8>) -> Vec<u8> {
 
 fn board_set(dir: &str) -> Vec<u8> {
     fs::read(format!("{dir}/board.set")).unwrap_or_default()
+}
+
+fn run_rec(dir: &str) -> Vec<u8> {
+    fs::read(format!("{dir}/run.rec")).unwrap_or_default()
 }
 
 /// The number of the refusal of `board.set` and what it carries; nothing for good text.

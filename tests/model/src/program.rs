@@ -1,10 +1,12 @@
-//! Document 01, "What the desk offers": the settings text and the whole log, block by block; and REQUESTS section 4,
-//! `desk_edition`.
+//! Document 01, "What the desk offers": the settings text and the whole log, block by block, also with a store beside the board
+//! (document 02, P6); and REQUESTS section 4, `desk_edition` and `desk_history`.
 
 use crate::board::{Board, Done};
 use crate::edition::{read, write};
 use crate::refusal::Refusal;
 use crate::report::row;
+use crate::steady::GTFE;
+use crate::store::{one_code, Store};
 
 /// Bytes of a record and of a block.
 pub const BYTES: usize = 24;
@@ -28,6 +30,54 @@ pub fn run_board(mut board: Board, log: &[u8], watch: &mut dyn FnMut(&Board, &Do
         }
     }
     Ok((board, rows))
+}
+
+/// "A block may be run with a store beside the board, which follows one input's believed code." Refusals: BOARD, STORE, "then
+/// RANGE, carrying the input, above 40", then the block's own; they leave the board, the store and the rows, which otherwise grow
+/// by the block's.
+pub fn beside(board: &mut Board, store: &mut Store, input: usize, block: &[u8], rows: &mut Vec<u8>) -> Result<(), Refusal> {
+    if !board.sound() {
+        return Err(Refusal::Board);
+    }
+    store.groups()?;
+    if input > GTFE {
+        return Err(Refusal::Range(input));
+    }
+    check(block)?;
+    for record in block.chunks(BYTES) {
+        let before = board.held.believed[input];
+        let done = board.record(record);
+        follow(store, before, board.held.believed[input], &done);
+        rows.extend(row(&done));
+    }
+    Ok(())
+}
+
+/// "A change is: the believed code after this crossing's step 2 differs from the one before it, with 0 and 15 taken as one"
+/// (REQUESTS section 3). It has the crossing's number, and the orbit count of its step 1. A command changes no code.
+pub fn follow(store: &mut Store, before: u8, now: u8, done: &Done) {
+    if let Done::Crossing { number, orbit, .. } = done {
+        if one_code(before) != one_code(now) {
+            store.keep(*orbit, *number, now);
+        }
+    }
+}
+
+/// The settings text and then the log, a fresh store beside the fresh board: the last board, the store and all rows, or the first
+/// refusal. RANGE of the input is the first block's; a log of no bytes has no block to refuse it.
+pub fn run_beside(text: &[u8], log: &[u8], input: usize) -> Result<(Board, Store, Vec<u8>), Refusal> {
+    let (mut board, mut store, mut rows) = (Board::fresh(read(text)?), Store::fresh(), Vec::new());
+    for block in log.chunks(BLOCK) {
+        beside(&mut board, &mut store, input, block, &mut rows)?;
+    }
+    Ok((board, store, rows))
+}
+
+/// What `desk_history` prints: "the read-out of a store that followed the input through the whole log, 7 bytes for each change", or
+/// "`refused=N` alone".
+pub fn history(text: &[u8], log: &[u8], input: usize) -> Vec<u8> {
+    let read_out = run_beside(text, log, input).and_then(|(_, store, _)| store.retained());
+    read_out.unwrap_or_else(|refusal| refused(refusal).into_bytes())
 }
 
 /// What `desk_edition` prints: "`board.set` in the newest edition", or "`refused=N` alone".

@@ -33,6 +33,9 @@ is-same-requires c κs = search needs
 say-left-requires : tie.Need-say-left-requires
 say-left-requires c κs = search needs
 
+slice-aggregate-say-written : tie.Need-slice-aggregate-say-written
+slice-aggregate-say-written c = search needs
+
 rows-end-requires : tie.Need-rows-end-requires
 rows-end-requires c κs = search needs
 
@@ -58,6 +61,7 @@ run-block-spec =
     slice-aggregate-say-left
     is-same-requires
     say-left-requires
+    slice-aggregate-say-written
     rows-end-requires
     say-written-requires
     same-length
