@@ -16,6 +16,7 @@
     eight schedules    as `eight ask`, but each controller goes by its own schedule: some controller acts at every fortieth number
     stopped by warning as `holder asks`, but under warning, with text whose `warn_blocks` is 1: every request is lost to the throttle
     rule 4 refuses     as `holder asks`, but rule 4 allows one trigger in 2,047 crossings: all four rules are counted, and the last refuses
+    an input alternates as `holder asks`, with one input that changes its code at every second crossing: `desk_history` has most to keep
 
 A code counts when two crossings in a row carry it (P1), so `codes change`, `codes flip` and `anything goes`, which are older and
 had a merge at every crossing, have fewer. They stay as they were: what P1 does to the speed shows in them.
@@ -70,6 +71,11 @@ def changing(chance, _):
 def paired(_, n):
     """As `changing`, by twos: chance that begins alike gives the same codes again."""
     return changing(random.Random(n // 2), n)
+
+
+def alternating(_, n):
+    """Partition 0 is ready in two crossings and warns in the next two."""
+    return crossing(1, bytes([0x88 if n // 2 % 2 else 0x81]) + READY[1:])
 
 
 def bouncing(_, n):
@@ -138,6 +144,7 @@ LOGS = [
     Log("eight schedules", EIGHT | OWN, 8, calibrating, edition=2),
     Log("stopped by warning", {"warn_blocks": 1}, 1, warned),
     Log("rule 4 refuses", {"r4_period": 2047, "r4_norm": 1, "r4_low": 1}, 1, lambda chance, n: crossing(1)),
+    Log("an input alternates", {}, 1, alternating),
 ]
 
 

@@ -17,11 +17,10 @@ use Rattle.steady.proofs.Laws.{believed-long, believed-code, carried-low, belie
 use Rattle.records.specs.Records.{isCrossing, markerIn, codesIn, well}
 use Rattle.records.proofs.Laws.{gtfe-low}
 use Rattle.eight.specs.Eight.{byteOf, shownOf, clockOf}
-use Rattle.history.specs.declared.keep.Change.{Change}
 use Rattle.follower.specs.declared.Follower.{Follower}
 use Rattle.follower.specs.support.Follower.{changeSeen, nextFollower}
 use Rattle.board.specs.declared.Board.{Board}
-use Rattle.board.specs.Crossing.{eight, heldIn, crossedBy, rowCrossed, crossingRowBy}
+use Rattle.board.specs.Crossing.{eight, heldIn, crossedBy, crossingRowBy}
 use Rattle.board.specs.Command.{commandedBy}
 use Rattle.board.specs.Run.{stepped, rowOf}
 use Rattle.logbook.proofs.Decoding.{row-byte}

@@ -3,15 +3,14 @@
 use mathlib.Core.Path.{_≡_, refl, sym, ap, _∙_}
 use mathlib.Core.Bool.{true, false}
 use mathlib.Core.List.{List, [], _++_, append-nil}
-use Prim.Native.Nat.{ℕ, suc, _+_, _*_, _≤_, _<_}
+use Prim.Native.Nat.{ℕ, _+_, _*_, _≤_, _<_}
 use native.Mathlib.Nat.{add-zero}
 use native.Mathlib.Numerals.{add-one}
 use native.Mathlib.Omega.{arith}
 use borrow.Author.Tests.{eq-eqb, ne-eqb, ltb-true}
 use lib.Dec.{leb, eqb, ltb}
-use lib.ListN.{length, getD, take, drop, take-append-drop}
+use lib.ListN.{length, getD, drop, take-append-drop}
 use lib.Seq.{getD-take, getD-drop}
-use Rattle.laws.specs.Base.{if}
 use Rattle.laws.proofs.Bools.{both}
 use Rattle.settings.specs.declared.Settings.{Settings}
 use Rattle.settings.specs.Names.{orbitOf}
@@ -24,7 +23,6 @@ use Rattle.records.specs.Records.{recAt, isCrossing, markerIn, codesIn, well}
 use Rattle.records.specs.Refusal.{LIFETIME, recordsIn}
 use Rattle.records.proofs.Laws.{rec-byte, well-at, gtfe-low}
 use Rattle.history.specs.declared.Store.{Store}
-use Rattle.history.specs.declared.keep.Change.{Change}
 use Rattle.history.specs.declared.keep.Pen.{Pen}
 use Rattle.history.specs.Store.{soundStore}
 use Rattle.history.specs.Keep.{keptAll}

@@ -8,7 +8,7 @@ use Rattle.answer.specs.Told.{Told, told, succeeded, DONE, RANGE, BOARD, STORE}
 use Rattle.records.specs.Refusal.{recordsIn}
 use Rattle.board.specs.declared.Board.{Board}
 use Rattle.board.specs.Sound.{soundBoard}
-use Rattle.board.specs.Block.{RanOut, blockOf}
+use Rattle.board.specs.Block.{blockOf}
 use Rattle.history.specs.declared.Store.{Store}
 use Rattle.history.specs.Store.{soundStore}
 use Rattle.history.specs.Keep.{keptAll}

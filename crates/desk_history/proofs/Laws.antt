@@ -6,10 +6,8 @@ use mathlib.Core.List.{List, [], _++_}
 use Prim.Native.Nat.{ℕ, _*_, _%_, _≤_}
 use native.Mathlib.Omega.{arith}
 use borrow.Author.Tests.{not-false, le-leb}
-use lib.Dec.{leb}
 use lib.ListN.{length, take, drop, replicate, length-append, length-take}
 use lib.Seq.{take-at}
-use Rattle.laws.specs.Base.{if}
 use Rattle.answer.specs.declared.Answer.{Answer}
 use Rattle.answer.specs.Told.{told, succeeded, DONE}
 use Rattle.answer.proofs.Told.{told-done}

@@ -1,14 +1,11 @@
 -- A change fits the words of a store: the code that is kept is 1 to 15.
 -- 0 is kept as 15, any other code as it is.
-use mathlib.Core.Path.{_≡_}
-use mathlib.Core.Bool.{true, false}
-use mathlib.Core.List.{List, [], _∷_}
-use Prim.Native.Nat.{ℕ, _%_, _≤_, _<_}
+use mathlib.Core.List.{[]}
+use Prim.Native.Nat.{ℕ, _≤_, _<_}
 use native.Mathlib.Omega.{arith}
 use borrow.Author.Tests.{eqb-false}
 use lib.Dec.{eqb}
 use Rattle.laws.proofs.Bools.{if-has}
-use Rattle.history.specs.declared.keep.Change.{Change}
 use Rattle.history.specs.Recall.{AllFit}
 use Rattle.follower.specs.Change.{oneCode, changeFor}
 

@@ -1,19 +1,18 @@
 -- The oldest group of words that can be split: it has 4 to 67 words, and without it the others scan and read as they did.
 -- Along its changes to the next header, where the scan forgets what was before; at least a quarter of all words are changes.
-use mathlib.Core.Path.{_≡_, refl, ap, sym, _∙_}
+use mathlib.Core.Path.{_≡_, refl, sym, _∙_}
 use mathlib.Core.Logic.{_⊎_, inl, inr}
-use mathlib.Core.Bool.{Bool, true, false, false≢true}
+use mathlib.Core.Bool.{true, false, false≢true}
 use mathlib.Core.List.{List, [], _∷_, _++_}
-use Prim.Native.Nat.{ℕ, zero, suc, _+_, _-_, _*_, _≤_, _<_}
+use Prim.Native.Nat.{ℕ, suc, _+_, _-_, _*_, _≤_, _<_}
 use native.Mathlib.Omega.{arith}
 use borrow.Author.Tests.{ne-eqb, le-leb, lt-leb, leb-true, eqb-true}
 use lib.Dec.{eqb, leb}
-use lib.ListN.{length, drop, length-append}
+use lib.ListN.{length, drop}
 use Rattle.laws.specs.Base.{if, one}
 use Rattle.laws.proofs.Bools.{both, if-has}
 use Rattle.laws.proofs.Tests.{either, lt-or-ge, same-or-not}
 use Rattle.history.specs.declared.scan.Scan.{Scan}
-use Rattle.history.specs.declared.keep.Change.{Change}
 use Rattle.history.specs.Scan.{start, lost, takes, ends, isChange, opens, after, changeOf, found, scanned, read}
 use Rattle.history.specs.Keep.{leading, groupIn}
 use Rattle.history.proofs.Scans.{opening, further, found-long, never, ends-within, ends-no, after-change, after-many, after-short, after-open, start-ends}

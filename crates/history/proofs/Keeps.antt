@@ -1,29 +1,28 @@
 -- One change kept in a sound store: it is sound again, and its changes are those that stayed and the new one.
 -- Room is made without touching how the other words scan; then the change's own words are laid behind them.
-use mathlib.Core.Path.{_≡_, refl, ap, ap₂, sym, _∙_}
+use mathlib.Core.Path.{_≡_, refl, ap, sym, _∙_}
 use mathlib.Core.Logic.{_⊎_, inl, inr, ⊎-elim}
-use mathlib.Core.Bool.{Bool, true, false, _&&_}
+use mathlib.Core.Bool.{true, false}
 use mathlib.Core.List.{List, [], _∷_, _++_, append-assoc, append-nil}
-use Prim.Native.Nat.{ℕ, zero, suc, _+_, _-_, _*_, _/_, _%_, _≤_, _<_}
-use native.Mathlib.Nat.{add-zero}
+use Prim.Native.Nat.{ℕ, _+_, _-_, _*_, _/_, _%_, _≤_, _<_}
 use native.Mathlib.Numerals.{add-one}
 use native.Mathlib.Omega.{arith}
 use borrow.Author.Tests.{le-leb, lt-leb, lt-ltb, leb-true, ltb-true, eqb-true}
 use lib.Dec.{eqb, leb, ltb}
-use lib.ListN.{length, set, drop, length-drop, length-set}
+use lib.ListN.{length, drop, length-drop, length-set}
 use Rattle.laws.specs.Base.{if}
-use Rattle.laws.proofs.Bools.{both, if-has}
+use Rattle.laws.proofs.Bools.{both}
 use Rattle.laws.proofs.Tests.{either, lt-or-ge}
 use Rattle.history.specs.declared.Store.{Store}
 use Rattle.history.specs.declared.scan.Scan.{Scan}
 use Rattle.history.specs.declared.keep.Change.{Change}
-use Rattle.history.specs.Scan.{start, orbitOf, takes, ends, isChange, after, changeOf, scanned, read}
-use Rattle.history.specs.Store.{content, kept, soundStore}
+use Rattle.history.specs.Scan.{start, orbitOf, takes, ends, changeOf, scanned, read}
+use Rattle.history.specs.Store.{kept, soundStore}
 use Rattle.history.specs.Keep.{Fits, wordOf, under, wordsFor, groupIn, lessOne, roomed, pushed, pushedAll, keptWith}
 use Rattle.history.specs.Read.{changesIn, readBytes}
 use Rattle.history.proofs.Ring.{content-long, content-mod, content-drop, content-push}
-use Rattle.history.proofs.Scans.{opening, further, bytes-long, read-short, scanned-append, read-append, takes-within, ends-yes, after-change, after-open, header-high, header-low}
-use Rattle.history.proofs.Groups.{First, first, quarter}
+use Rattle.history.proofs.Scans.{further, bytes-long, read-short, scanned-append, read-append, takes-within, ends-yes, after-change, after-open, header-high, header-low}
+use Rattle.history.proofs.Groups.{first, quarter}
 
 -- ---- a sound store
 
@@ -136,7 +135,7 @@ pub record Own (q : Scan) (c : Change) : Type 0 where
   pub read : read q (wordsFor q c) ≡ c ∷ []
 
 module _ (c : Change) (f : Fits c) where
-  big : 4096 ≤ wordOf c
+  pub big : 4096 ≤ wordOf c
   big = omega (arith, f .some)
 
   -- a word read back

@@ -4,3 +4,4 @@ pub mod Groups
 pub mod Keeps
 pub mod Pens
 pub mod Recall
+pub mod Alike

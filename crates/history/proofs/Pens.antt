@@ -7,7 +7,6 @@ use Prim.Native.Nat.{ℕ, suc, _+_, _/_, _%_, _≤_, _<_}
 use native.Mathlib.Omega.{arith}
 use lib.ListN.{length}
 use Rattle.history.specs.declared.Store.{Store}
-use Rattle.history.specs.declared.scan.Scan.{Scan}
 use Rattle.history.specs.declared.keep.Change.{Change}
 use Rattle.history.specs.declared.keep.Pen.{Pen}
 use Rattle.history.specs.Scan.{start, after, scanned}

@@ -8,21 +8,24 @@ use Prim.Native.Nat.{ℕ, _+_, _-_, _≤_}
 use native.Mathlib.Omega.{arith}
 use lib.ListN.{length, drop, length-append, length-drop}
 use lib.Seq.{drop-drop, drop-append-le}
-use Rattle.laws.proofs.Tests.{lt-or-ge}
 use Rattle.history.specs.declared.Store.{Store}
 use Rattle.history.specs.declared.keep.Change.{Change}
-use Rattle.history.specs.Scan.{start, ends, scanned, read}
+use Rattle.history.specs.Scan.{scanned, read}
 use Rattle.history.specs.Store.{content, freshStore, soundStore}
-use Rattle.history.specs.Keep.{Fits, keptWith, keptAll}
+use Rattle.history.specs.Keep.{keptWith, keptAll}
 use Rattle.history.specs.Read.{changesIn}
-use Rattle.history.specs.Recall.{AllFit, LastOf, Recalls, Recalling}
+use Rattle.history.specs.Recall.{AllFit, LastOf, Recalling}
 use Rattle.history.proofs.Scans.{start-ends}
-use Rattle.history.proofs.Keeps.{Sound, parts-sound, keeps}
+use Rattle.history.proofs.Keeps.{parts-sound, keeps}
 
 pub kept-append : (s : Store) (l m : List Change) → keptAll s (l ++ m) ≡ keptAll (keptAll s l) m
 unfolding keptAll
 kept-append s [] m = refl
 kept-append s (c ∷ l) m = kept-append (keptWith s c) l m
+
+pub fit-append : (l m : List Change) → AllFit l → AllFit m → AllFit (l ++ m)
+fit-append [] m f g = g
+fit-append (c ∷ l) m f g = (f .0, fit-append l m (f .1) g)
 
 -- a sound store stays so
 pub kept-sound : (s : Store) (cs : List Change) → length (s .words) ≡ 1024 → soundStore s ≡ true → AllFit cs

@@ -44,7 +44,7 @@ lessOne s =
     let k = groupIn (kept s) in
     record { words = s .words; oldest = (s .oldest + k) % 1024; used = s .used - k }
 
--- with room for n words, 1 or 4. A group has at least 4, so one that goes is enough: `room-made` (proofs/Groups.antt)
+-- with room for n words, 1 or 4. A group has at least 4, so one that goes is enough: `room-made` (proofs/Keeps.antt)
 unfoldable pub roomed : ℕ → Store → Store
 roomed n s = if (leb (s .used + n) 1024) s (lessOne s)
 

@@ -8,7 +8,7 @@ use mathlib.Core.List.{List, [], _∷_}
 use lib.ListN.{length, drop}
 use Rattle.history.specs.declared.Store.{Store}
 use Rattle.history.specs.declared.keep.Change.{Change}
-use Rattle.history.specs.Store.{freshStore, soundStore}
+use Rattle.history.specs.Store.{kept, freshStore, soundStore}
 use Rattle.history.specs.Keep.{Fits, keptAll}
 use Rattle.history.specs.Read.{changesIn}
 
@@ -29,3 +29,13 @@ pub record Recalls (cs : List Change) : Type 0 where
 
 abbrev pub Recalling : Type 0
 Recalling = (cs : List Change) → AllFit cs → Recalls cs
+
+-- two that hold the same changes have the same words in use, in order: they differ in the place of the oldest and in words out of use alone
+pub record SameWords (s t : Store) : Type 0 where
+  pub words : kept s ≡ kept t
+  pub used : s .used ≡ t .used
+
+abbrev pub Alike : Type 0
+Alike =
+    (cs ds : List Change) → AllFit cs → AllFit ds → changesIn (keptAll freshStore cs) ≡ changesIn (keptAll freshStore ds)
+    → SameWords (keptAll freshStore cs) (keptAll freshStore ds)

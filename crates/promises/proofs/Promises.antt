@@ -17,6 +17,7 @@ use Rattle.steady.proofs.Laws.{all-held}
 use Rattle.bounce.proofs.Holds.{holding}
 use Rattle.bounce.proofs.Bounce.{bounce, never-twice}
 use Rattle.bounce.proofs.Sample.{sample}
+use Rattle.history.proofs.Alike.{alike}
 use Rattle.recall.proofs.Blocks.{beside-cut}
 use Rattle.recall.proofs.Recall.{store-changes-nothing, recall}
 use Rattle.slots.proofs.Slots.{slots}
@@ -51,5 +52,6 @@ promises =
       store-changes-nothing = store-changes-nothing;
       beside-cut = beside-cut;
       recall = recall;
+      alike = alike;
       no-empty-program = no-empty-program;
     }

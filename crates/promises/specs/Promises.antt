@@ -23,6 +23,7 @@ use Rattle.pieces.specs.Printing.{Printing}
 use Rattle.steady.specs.Held.{AllHeld}
 use Rattle.bounce.specs.Input.{Holding}
 use Rattle.bounce.specs.Bounce.{Bounce, NeverTwice, Sample}
+use Rattle.history.specs.Recall.{Alike}
 use Rattle.recall.specs.Recall.{StoreChangesNothing, BesideCut, Recall}
 use Rattle.slots.specs.Slots.{Slots}
 use Rattle.slots.specs.Rounds.{Rounds}
@@ -81,9 +82,10 @@ pub record Promises : Type 0 where
   pub as-before : AsBefore
   pub stopped : Stopped
   -- document 02, P6: a store beside the board changes nothing, any blocks give the uncut log's store, and what it tells are the last changes
-  -- of the input's believed code
+  -- of the input's believed code; two stores that began fresh and tell the same hold the same words in use
   pub store-changes-nothing : StoreChangesNothing
   pub beside-cut : BesideCut
   pub recall : Recall
+  pub alike : Alike
   -- and no program without work meets the contracts
   pub no-empty-program : NoEmptyProgram

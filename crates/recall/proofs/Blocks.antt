@@ -7,10 +7,9 @@ use mathlib.Core.List.{List, [], _∷_, _++_}
 use Prim.Native.Nat.{ℕ, _+_, _*_, _%_, _≤_, _<_}
 use native.Mathlib.Omega.{arith}
 use borrow.Author.Tests.{le-leb}
-use lib.ListN.{length, getD, length-append, List·getD-append, List·getD-eq-default}
+use lib.ListN.{length, length-append, List·getD-append, List·getD-eq-default}
 use lib.Seq.{getD-append-add}
 use Rattle.laws.proofs.Tests.{lt-or-ge}
-use Rattle.answer.specs.declared.Answer.{Answer}
 use Rattle.answer.specs.Told.{DONE}
 use Rattle.steady.proofs.Laws.{carried-low, believed-low}
 use Rattle.records.specs.Refusal.{recordsIn, Ready}
@@ -21,7 +20,7 @@ use Rattle.history.proofs.Recall.{kept-sound}
 use Rattle.board.specs.declared.Board.{Board}
 use Rattle.board.specs.Sound.{soundBoard}
 use Rattle.board.specs.Run.{ran}
-use Rattle.board.specs.Block.{RanOut, blockOf}
+use Rattle.board.specs.Block.{blockOf}
 use Rattle.board.proofs.Answers.{block-ready, block-answer, block-done}
 use Rattle.board.proofs.Settled.{sound-parts}
 use Rattle.board.proofs.Keeps.{Fit}
@@ -32,7 +31,7 @@ use Rattle.beside.specs.Changes.{changesOver}
 use Rattle.beside.specs.Beside.{BesideOut, followed, besideAnswer, besideOf}
 use Rattle.beside.proofs.Answers.{allowed-of}
 use Rattle.recall.specs.Told.{OfBytes}
-use Rattle.recall.specs.Recall.{HeldBytes, BesideOutcome, besideInTurn, BesideCut}
+use Rattle.recall.specs.Recall.{besideInTurn, BesideCut}
 use Rattle.recall.proofs.Fitting.{CodedHeld, held-at, all-fit}
 use Rattle.recall.proofs.Parts.{followed-parts}
 

@@ -1,25 +1,24 @@
 -- Over a board that a program can hold and a log of bytes, every change fits the words of a store.
 -- The held codes stay nibbles in bytes, and a crossing's number is below 4,096.
-use mathlib.Core.Path.{_≡_, sym, _∙_}
+use mathlib.Core.Path.{_≡_}
 use mathlib.Core.Logic.{⊎-elim}
-use mathlib.Core.Bool.{Bool, true, false}
-use mathlib.Core.List.{List, [], _∷_, _++_}
-use Prim.Native.Nat.{ℕ, zero, suc, _+_, _*_, _≤_, _<_}
+use mathlib.Core.Bool.{true, false}
+use mathlib.Core.List.{List, []}
+use Prim.Native.Nat.{ℕ, zero, suc, _≤_, _<_}
 use native.Mathlib.Omega.{arith}
-use lib.ListN.{length, getD}
 use Rattle.laws.specs.Base.{if}
 use Rattle.laws.proofs.Bools.{if-has}
 use Rattle.laws.proofs.Tests.{either}
-use Rattle.status.specs.Codes.{codeAt, Coded}
+use Rattle.status.specs.Codes.{Coded}
 use Rattle.status.proofs.Codes.{code-low}
 use Rattle.steady.specs.Held.{nextHeld}
 use Rattle.steady.proofs.Laws.{believed-coded}
 use Rattle.clock.specs.Clock.{numberOf}
-use Rattle.records.specs.Records.{recAt, isCrossing, markerIn, codesIn, well}
+use Rattle.records.specs.Records.{recAt, isCrossing, markerIn, codesIn}
 use Rattle.records.specs.Refusal.{recordsIn, Ready}
 use Rattle.records.proofs.Laws.{rec-long, rec-bytes, well-at}
-use Rattle.history.specs.declared.keep.Change.{Change}
 use Rattle.history.specs.Recall.{AllFit}
+use Rattle.history.proofs.Recall.{fit-append}
 use Rattle.follower.proofs.Fits.{change-fits}
 use Rattle.board.specs.declared.Board.{Board}
 use Rattle.board.specs.Crossing.{crossedBy}
@@ -30,10 +29,6 @@ use Rattle.board.proofs.Keeps.{Fit, ran-fit}
 use Rattle.beside.specs.Changes.{changeIn, changesOver}
 use Rattle.beside.proofs.Turns.{next-low}
 use Rattle.recall.specs.Told.{OfBytes}
-
-fit-append : (l m : List Change) → AllFit l → AllFit m → AllFit (l ++ m)
-fit-append [] m f g = g
-fit-append (c ∷ l) m f g = (f .0, fit-append l m (f .1) g)
 
 -- the held codes are well formed
 pub record CodedHeld (b : Board) : Type 0 where

@@ -8,7 +8,7 @@ use native.Mathlib.Omega.{arith}
 use lib.ListN.{length, take, drop}
 use lib.Seq.{take-append-seam, drop-at}
 use Rattle.laws.specs.Base.{if}
-use Rattle.records.specs.Records.{recAt, isCrossing}
+use Rattle.records.specs.Records.{isCrossing}
 use Rattle.records.specs.Refusal.{recordsIn}
 use Rattle.records.proofs.Laws.{rec-cut, rec-start}
 use Rattle.history.specs.declared.Store.{Store}

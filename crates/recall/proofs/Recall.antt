@@ -1,31 +1,25 @@
 -- The three promises: a store changes nothing, any blocks give the uncut log's store, and the store tells the last changes.
 -- The first by the definition; the second by induction on the blocks, as the cut without a store; the third is what a store recalls of its changes.
-use mathlib.Core.Path.{_≡_, refl, subst}
+use mathlib.Core.Path.{refl, subst}
 use mathlib.Core.Logic.{⊎-elim}
-use mathlib.Core.Bool.{true}
-use mathlib.Core.List.{List, [], _∷_, _++_}
-use Prim.Native.Nat.{ℕ, _*_, _%_, _≤_, _<_}
+use mathlib.Core.List.{List, []}
+use Prim.Native.Nat.{ℕ, _≤_, _<_}
 use native.Mathlib.Omega.{arith}
-use lib.ListN.{length, getD, replicate, length-append, getD-replicate, List·getD-eq-default}
+use lib.ListN.{length, getD, replicate, getD-replicate, List·getD-eq-default}
 use Rattle.laws.proofs.Tests.{lt-or-ge}
-use Rattle.answer.specs.Told.{DONE}
 use Rattle.settings.specs.declared.Settings.{Settings}
 use Rattle.status.specs.Codes.{Coded}
 use Rattle.steady.specs.Held.{freshHeld}
 use Rattle.records.specs.Refusal.{recordsIn, Ready}
-use Rattle.history.specs.declared.Store.{Store}
-use Rattle.history.specs.Store.{freshStore, soundStore}
+use Rattle.history.specs.Store.{freshStore}
 use Rattle.history.specs.declared.keep.Change.{Change}
 use Rattle.history.specs.Read.{changesIn}
 use Rattle.history.specs.Recall.{LastOf}
 use Rattle.history.proofs.Recall.{recalling}
-use Rattle.board.specs.Block.{blockOf}
 use Rattle.board.specs.Fresh.{freshBoard}
-use Rattle.logbook.specs.Whole.{Taken}
 use Rattle.logbook.proofs.Ground.{ground}
 use Rattle.beside.specs.Changes.{changesOver}
-use Rattle.beside.specs.Beside.{followed, besideAnswer, besideOf}
-use Rattle.recall.specs.Told.{OfBytes}
+use Rattle.beside.specs.Beside.{followed, besideOf}
 use Rattle.recall.specs.Recall.{StoreChangesNothing, Recall}
 use Rattle.recall.proofs.Fitting.{CodedHeld, all-fit}
 use Rattle.recall.proofs.Telling.{changes-told}

@@ -2,20 +2,19 @@
 -- The number and the believed code are told already (`along`, `told-at`); the orbit count is told by induction on the records.
 use mathlib.Core.Path.{_≡_, refl, sym, ap, ap₂, _∙_}
 use mathlib.Core.Logic.{⊎-elim}
-use mathlib.Core.Bool.{Bool, true, false}
+use mathlib.Core.Bool.{true, false}
 use mathlib.Core.List.{List, [], _++_}
 use Prim.Native.Nat.{ℕ, zero, suc, _+_, _%_, _≤_, _<_}
 use native.Mathlib.Omega.{arith}
 use lib.Dec.{eqb}
-use lib.ListN.{length, getD}
-use Rattle.laws.specs.Base.{if, one}
+use lib.ListN.{length}
 use Rattle.laws.proofs.Tests.{either}
 use Rattle.laws.proofs.Over.{length-mapI}
 use Rattle.settings.specs.declared.Settings.{Settings}
 use Rattle.settings.specs.Names.{orbitOf}
 use Rattle.status.specs.Codes.{codeAt}
 use Rattle.steady.specs.declared.Held.{Held}
-use Rattle.clock.specs.Clock.{orbitEnds, numberOf, tickedOf}
+use Rattle.clock.specs.Clock.{tickedOf}
 use Rattle.records.specs.Records.{recAt, isCrossing, markerIn}
 use Rattle.records.specs.Rows.{clearsOrbit}
 use Rattle.records.specs.Refusal.{recordsIn}
@@ -29,10 +28,10 @@ use Rattle.board.specs.Run.{stepped, rowOf, ran}
 use Rattle.board.specs.Fresh.{freshBoard}
 use Rattle.logbook.specs.Row.{rowAt}
 use Rattle.logbook.specs.Whole.{Taken, whole}
-use Rattle.logbook.specs.Beam.{beamAt, numberIn}
+use Rattle.logbook.specs.Beam.{numberIn}
 use Rattle.logbook.proofs.Decoding.{row-byte}
 use Rattle.logbook.proofs.Ground.{fit-at, row-at}
-use Rattle.logbook.proofs.Beams.{along, number-told, own-settings}
+use Rattle.logbook.proofs.Beams.{along}
 use Rattle.bounce.specs.Input.{believedBefore}
 use Rattle.bounce.proofs.Holds.{told-at}
 use Rattle.beside.specs.Changes.{changeIn, changesOver}

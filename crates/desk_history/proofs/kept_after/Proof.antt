@@ -1,6 +1,5 @@
 -- `desk_history::kept_after` meets its contract: a piece that was read is followed where it was accepted.
 -- What `keep_if` ensures, where reading did not fail.
-use mathlib.Core.Path.{refl}
 use Rattle.desk_history.proofs.kept_after.Statement.{statement}
 use Rattle.desk_history.proofs.kept_after.Tie as tie
 

@@ -1,7 +1,6 @@
 -- `desk_history::number_of` is safe and ends: the newline behind the argument lies in the buffer.
 -- That is what its test shows.
 use mathlib.Core.Path.{sym}
-use native.Mathlib.Omega.{arith}
 use lib.Seq.{length-take-le}
 use borrow.Author.Needs.{needs}
 use Rattle.desk_history.proofs.number_of.Statement.{statement}

@@ -1,7 +1,6 @@
 -- `follower::one_code` meets its contract: 0 is told as 15.
 -- A branch tells the test of the definition.
 use Rattle.laws.proofs.Tests.{tests}
-use Rattle.follower.specs.Change.{oneCode}
 use Rattle.follower.proofs.one_code.Statement.{statement}
 use Rattle.follower.proofs.one_code.Tie as tie
 

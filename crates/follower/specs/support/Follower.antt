@@ -5,7 +5,6 @@ use mathlib.Core.List.{List}
 use lib.Dec.{eqb}
 use Rattle.laws.specs.Base.{if}
 use Rattle.steady.specs.Steady.{steady}
-use Rattle.clock.specs.declared.Clock.{Clock}
 use Rattle.clock.specs.Clock.{numberOf, tickedOf}
 use Rattle.history.specs.declared.keep.Change.{Change}
 use Rattle.follower.specs.declared.Follower.{Follower}

@@ -1,16 +1,13 @@
 -- `beside::follow` meets its contract: after i records the store is that of their changes, and the follower stands where the board does.
 -- A turn is the law of a crossing or of a command (`Turns`). The loop has no board in it, so what it holds is said of any that it begins with.
-use mathlib.Core.Path.{_≡_, refl, sym, _∙_}
-use Prim.Native.Nat.{_+_, _-_, _*_, _/_}
+use mathlib.Core.Path.{_≡_, refl}
+use Prim.Native.Nat.{_-_}
 use native.Mathlib.Omega.{arith}
 use lib.ListN.{length}
 use Rattle.laws.proofs.Tests.{mapped-long}
 use Rattle.records.specs.Refusal.{recordsIn}
 use Rattle.records.proofs.Laws.{codes-lent}
 use Rattle.history.specs.declared.Store.{Store}
-use Rattle.history.specs.declared.keep.Pen.{Pen}
-use Rattle.history.specs.support.Pen.{penOf}
-use Rattle.follower.specs.declared.Follower.{Follower}
 use Rattle.board.specs.declared.Board.{Board}
 use Rattle.beside.proofs.Turns.{Begins, Stands, stands-first, is-crossing, is-command, gtfe, asked, command-stands, crossing-stands, marker-read}
 use borrow.Author.Needs.{needs}

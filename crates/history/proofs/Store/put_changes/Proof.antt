@@ -9,7 +9,7 @@ use lib.ListN.{length, getD, length-append}
 use Rattle.text.specs.Bytes.{put}
 use Rattle.text.proofs.Bytes.{put-nil, put-append}
 use Rattle.history.specs.declared.scan.Scan.{Scan}
-use Rattle.history.specs.Scan.{start, after, found, read}
+use Rattle.history.specs.Scan.{after, found, read}
 use Rattle.history.specs.Store.{content}
 use Rattle.history.specs.Read.{bytesOfAll, readBytes}
 use Rattle.history.proofs.Ring.{content-none}

@@ -1,12 +1,10 @@
 -- `history::put_word` meets its contract: a change has seven bytes, any other word none.
 -- What `bytes` and `put_bytes` ensure, put together.
-use mathlib.Core.Path.{_≡_, refl, sym, ap, _∙_}
+use mathlib.Core.Path.{refl, sym, _∙_}
 use mathlib.Core.List.{append-nil}
 use native.Mathlib.Nat.{add-zero}
-use native.Mathlib.Omega.{arith}
 use Rattle.text.proofs.Bytes.{put-nil}
-use Rattle.history.specs.Scan.{found, changeOf}
-use Rattle.history.specs.Read.{bytesOf, bytesOfAll}
+use Rattle.history.specs.Read.{bytesOfAll}
 use borrow.Author.Needs.{needs}
 use Rattle.history.proofs.read.put_word.Statement.{statement}
 use Rattle.history.proofs.read.put_word.Tie as tie

@@ -1,6 +1,6 @@
 -- `history::walk` meets its contract: what is left of the words, scanned from here, is what all of them are from the start.
 -- A turn is the law of one word (`scan-next`, `count-next`).
-use mathlib.Core.Path.{_≡_, refl, sym, _∙_}
+use mathlib.Core.Path.{_≡_, sym, _∙_}
 use mathlib.Core.List.{List, []}
 use Prim.Native.Nat.{ℕ, _+_, _-_, _≤_}
 use native.Mathlib.Nat.{add-zero, sub-zero, zero-add}

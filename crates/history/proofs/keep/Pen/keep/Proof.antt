@@ -1,6 +1,6 @@
 -- `history::Pen::keep` meets its contract: room for the change's words, which are then laid behind the others.
 -- Each word laid takes one place of the room; the laws of `Pens` close both cases.
-use mathlib.Core.Path.{_≡_, sym, _∙_}
+use mathlib.Core.Path.{sym, _∙_}
 use native.Mathlib.Omega.{arith}
 use Rattle.history.proofs.Pens.{space-room, space-push, kept-under, kept-own, scan-under, scan-own, kept-here}
 use borrow.Author.Needs.{needs}

@@ -1,6 +1,6 @@
 -- `history::Pen::lead` meets its contract: the changes before this word and those that lead what is left are all that lead.
 -- A turn takes one word more; a word below 4,096 or the end stops it.
-use mathlib.Core.Path.{_≡_, sym, _∙_}
+use mathlib.Core.Path.{_≡_, _∙_}
 use mathlib.Core.List.{List}
 use Prim.Native.Nat.{ℕ, _+_, _-_, _≤_, _<_, _%_}
 use native.Mathlib.Omega.{arith}

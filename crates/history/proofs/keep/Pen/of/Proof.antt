@@ -1,7 +1,5 @@
 -- `history::Pen::of` meets its contract: the scan is that of all words in use.
 -- A sound store has its bounds in range.
-use native.Mathlib.Omega.{arith}
-use Rattle.history.specs.Store.{soundStore}
 use Rattle.history.proofs.Keeps.{sound-parts}
 use Rattle.history.proofs.keep.Pen.of.Statement.{statement}
 use Rattle.history.proofs.keep.Pen.of.Tie as tie

@@ -4,7 +4,6 @@ use mathlib.Core.Path.{_≡_, refl, ap}
 use Prim.Native.Nat.{ℕ, _+_, _-_, _≤_}
 use native.Mathlib.Omega.{arith}
 use borrow.Author.Tests.{le-leb, lt-leb}
-use lib.ListN.{length}
 use Rattle.history.specs.declared.Store.{Store}
 use Rattle.history.specs.Store.{content, kept}
 use Rattle.history.specs.Keep.{leading, groupIn, lessOne, roomed}
