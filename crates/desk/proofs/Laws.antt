@@ -1,16 +1,14 @@
 -- From the files to what is printed: the board that is reported is the closing one of what was read, and its report is laid whole.
 -- Both files were accepted, so what is printed of them is the report, and that fits the buffer.
 use mathlib.Core.Path.{_≡_, sym, ap, _∙_}
-use mathlib.Core.Bool.{Bool, true, false, false≢true}
+use mathlib.Core.Bool.{Bool, false}
 use mathlib.Core.List.{List, _++_}
 use Prim.Native.Nat.{ℕ, _≤_}
 use native.Mathlib.Omega.{arith}
-use borrow.Author.Tests.{not-false}
 use lib.ListN.{length, take, drop, length-append}
 use lib.Seq.{take-at}
 use Rattle.answer.specs.declared.Answer.{Answer}
-use Rattle.answer.specs.Told.{told, succeeded, DONE}
-use Rattle.answer.proofs.Told.{told-done}
+use Rattle.answer.specs.Told.{told}
 use Rattle.board.specs.declared.Board.{Board}
 use Rattle.board.specs.declared.Made.{Made}
 use Rattle.board.specs.declared.Ran.{Ran}
@@ -21,14 +19,10 @@ use Rattle.report.specs.Fits.{reportRoom}
 use Rattle.replay.specs.Printed.{replayed, printedOf}
 use Rattle.pieces.proofs.Printing.{printing, shown-is}
 use Rattle.ending.specs.Ends.{over}
+use Rattle.ending.proofs.Ends.{went-on}
 use Rattle.shell.specs.Opened.{OfSomeText}
 use Rattle.shell.specs.Logs.{OfSomeLog}
 use Rattle.desk.specs.Printed.{Closing, OfSomeFiles}
-
--- a program that is not over has read its file, and what it holds is accepted
-accepted : (failed : Bool) (a : Answer) → over failed (told a) ≡ false → told a ≡ DONE
-accepted true a e = absurd (false≢true (sym e))
-accepted false a e = told-done a (not-false (succeeded (told a)) e)
 
 pub closing : (m : Made) (r : Ran) (unread stopped : Bool) → OfSomeText m → OfSomeLog (m .board) r → over unread (told (m .answer)) ≡ false
     → over stopped (told (r .answer)) ≡ false → Closing (r .board)
@@ -37,8 +31,8 @@ closing m r unread stopped some of on through =
     record {
       text = some .0;
       log = of .0;
-      opens = sym (ap (λ (o : MadeOut). o .answer) (some .1)) ∙ accepted unread (m .answer) on;
-      through = sym (of .1 ∙ ap (λ (o : RanOut). o .answer) same) ∙ accepted stopped (r .answer) through;
+      opens = sym (ap (λ (o : MadeOut). o .answer) (some .1)) ∙ went-on unread (m .answer) on;
+      through = sym (of .1 ∙ ap (λ (o : RanOut). o .answer) same) ∙ went-on stopped (r .answer) through;
       is = of .2 ∙ ap (λ (o : RanOut). o .board) same;
     }
 

@@ -1,36 +1,32 @@
 -- From the file to what is printed: a program that is not over has read its file, and the text of its settings is laid whole.
 -- The text was accepted, so its settings pass the check, and their text fits the buffer.
 use mathlib.Core.Path.{_≡_, sym, ap, _∙_}
-use mathlib.Core.Bool.{Bool, true, false, false≢true}
+use mathlib.Core.Bool.{Bool, false}
 use mathlib.Core.List.{List, _++_}
 use Prim.Native.Nat.{ℕ, _≤_}
 use native.Mathlib.Omega.{arith}
-use borrow.Author.Tests.{not-false, le-leb}
+use borrow.Author.Tests.{le-leb}
 use lib.ListN.{length, take, drop, length-append}
 use lib.Seq.{take-append-seam}
 use Rattle.answer.specs.declared.Answer.{Answer}
-use Rattle.answer.specs.Told.{told, succeeded, DONE}
-use Rattle.answer.proofs.Told.{told-done}
+use Rattle.answer.specs.Told.{told, DONE}
 use Rattle.settings.specs.declared.Settings.{Settings}
 use Rattle.settings.specs.Check.{checked}
 use Rattle.editions.specs.declared.Read.{Read}
-use Rattle.editions.specs.Read.{ReadOut, readText}
+use Rattle.editions.specs.Read.{ReadOut}
 use Rattle.editions.specs.Write.{WriteOut, textOf, writeOut, writeAnswer, written}
 use Rattle.editions.specs.support.Prefix.{textMost}
 use Rattle.editions.proofs.RoundTrip.{accepted}
 use Rattle.editions.proofs.Fits.{text-fits}
 use Rattle.ending.specs.Ends.{over}
+use Rattle.ending.proofs.Ends.{went-on}
 use Rattle.desk_edition.specs.Printed.{ReadOfSome, Upgrading, OfSomeText}
-
-read-done : (failed : Bool) (a : Answer) → over failed (told a) ≡ false → told a ≡ DONE
-read-done true a e = absurd (false≢true (sym e))
-read-done false a e = told-done a (not-false (succeeded (told a)) e)
 
 pub upgrading : (r : Read) (failed : Bool) → ReadOfSome r → over failed (told (r .answer)) ≡ false → Upgrading (r .settings)
 upgrading r failed some on =
     record {
       text = some .0;
-      accepted = sym (ap (λ (o : ReadOut). o .answer) (some .1)) ∙ read-done failed (r .answer) on;
+      accepted = sym (ap (λ (o : ReadOut). o .answer) (some .1)) ∙ went-on failed (r .answer) on;
       is = ap (λ (o : ReadOut). o .settings) (some .1);
     }
 

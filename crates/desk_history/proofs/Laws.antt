@@ -5,7 +5,7 @@ use mathlib.Core.Bool.{Bool, true, false, false≢true}
 use mathlib.Core.List.{List, [], _++_}
 use Prim.Native.Nat.{ℕ, _*_, _%_, _≤_}
 use native.Mathlib.Omega.{arith}
-use borrow.Author.Tests.{not-false, le-leb}
+use borrow.Author.Tests.{le-leb}
 use lib.ListN.{length, take, drop, replicate, length-append, length-take}
 use lib.Seq.{take-at}
 use Rattle.answer.specs.declared.Answer.{Answer}
@@ -41,6 +41,7 @@ use Rattle.beside.specs.support.Through.{Through}
 use Rattle.beside.proofs.Answers.{run-through}
 use Rattle.recall.proofs.Parts.{followed-parts}
 use Rattle.ending.specs.Ends.{over}
+use Rattle.ending.proofs.Ends.{went-on}
 use Rattle.shell.specs.Opened.{OfSomeText}
 use Rattle.shell.specs.Pieces.{pieceRun, isFull}
 use Rattle.shell.proofs.Laws.{SoFar, full-piece, more}
@@ -154,11 +155,6 @@ pub nothing-followed : (x : ℕ) (fresh b : Board) (s : Store) → SoFarBeside x
 nothing-followed x fresh b s g a d = record { log = g .so .log; answer = d ∙ sym (g .so .done); sound = g .sound; store = λ e. g .store }
 
 -- ---- what is printed
-
--- a program that is not over has read its file, and what it holds is accepted
-went-on : (failed : Bool) (a : Answer) → over failed (told a) ≡ false → told a ≡ DONE
-went-on true a e = absurd (false≢true (sym e))
-went-on false a e = told-done a (not-false (succeeded (told a)) e)
 
 pub opened-by : (m : Made) (unread : Bool) → OfSomeText m → over unread (told (m .answer)) ≡ false → OpenedBy (m .board)
 opened-by m unread some on =
