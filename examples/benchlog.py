@@ -13,6 +13,8 @@ A readable log has one word and its details to a line; `#` begins a comment.
     bounce part3=disconnected ask=0             one crossing in which part3 carries another code
     marker ask=0                                one crossing with the orbit marker
     START 0                                     a command to a controller: START STOP HARD RESYNC CALIBRATE PANIC
+    damage 1=3 3=24                             the record before has these bytes, 0..23, at these values: as a bad disk leaves it
+    cut 5                                       the record before has but its first 5 bytes: where a log breaks off
 """
 import sys
 
@@ -83,9 +85,17 @@ def requests_of(words):
     return bits
 
 
+def damaged(record, words):
+    spoilt = bytearray(record)
+    for word in words:
+        place, value = word.split("=")
+        spoilt[int(place)] = int(value)
+    return bytes(spoilt)
+
+
 def records_of(lines):
     """Each record of a readable log."""
-    codes = Codes()
+    codes, records = Codes(), []
     for number, line in enumerate(lines, 1):
         words = line.split("#")[0].split()
         if not words:
@@ -95,19 +105,24 @@ def records_of(lines):
                 for word in words[1:]:
                     codes.set(word)
             elif words[0] == "cross":
-                yield from [codes.record(0, requests_of(words[2:]))] * int(words[1])
+                records += [codes.record(0, requests_of(words[2:]))] * int(words[1])
             elif words[0] == "bounce":
                 other = Codes(dict(codes.of))
                 for word in words[1:]:
                     if not word.startswith("ask="):
                         other.set(word)
-                yield other.record(0, requests_of([word for word in words if word.startswith("ask=")]))
+                records.append(other.record(0, requests_of([word for word in words if word.startswith("ask=")])))
             elif words[0] == "marker":
-                yield codes.record(1, requests_of(words[1:]))
+                records.append(codes.record(1, requests_of(words[1:])))
+            elif words[0] == "damage":
+                records[-1] = damaged(records[-1], words[1:])
+            elif words[0] == "cut":
+                records[-1] = records[-1][: int(words[1])]
             else:
-                yield bytes([1, int(words[1]), COMMANDS.index(words[0]) + 1] + [0] * 21)
+                records.append(bytes([1, int(words[1]), COMMANDS.index(words[0]) + 1] + [0] * 21))
         except (ValueError, KeyError, IndexError):
             sys.exit(f"benchlog: line {number}: {line.strip()}")
+    return records
 
 
 def row_words(row):

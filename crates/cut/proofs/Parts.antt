@@ -5,11 +5,11 @@ use mathlib.Core.Bool.{true}
 use mathlib.Core.List.{List, _++_}
 use Prim.Native.Nat.{ℕ, _+_, _*_, _%_, _≤_, _<_}
 use native.Mathlib.Omega.{arith}
-use lib.ListN.{length, take, drop, length-append}
-use lib.Seq.{take-append-seam, drop-at}
+use lib.ListN.{length, take, length-append}
+use lib.Seq.{take-append-seam}
 use Rattle.records.specs.Records.{recAt, well, crossingsIn}
 use Rattle.records.specs.Refusal.{recordsIn, Ready}
-use Rattle.records.proofs.Laws.{rec-cut, rec-start, well-at, all-formed}
+use Rattle.records.proofs.Laws.{rec-first, rest-left, rec-rest, well-at, all-formed}
 use Rattle.board.specs.declared.Board.{Board}
 use Rattle.board.specs.Run.{ran, rowsOf}
 use Rattle.board.proofs.Cut.{cut-board, cut-rows, start-board, start-rows}
@@ -25,18 +25,8 @@ module _ (b : Board) (x y : List ℕ) (between : length x % 24 ≡ 0) (end : len
   pub records-add : recordsIn (x ++ y) ≡ recordsIn x + recordsIn y
   records-add = omega (arith, first-long, rest-long, length-append x y)
 
-  rest-left : drop (24 * recordsIn x) (x ++ y) ≡ y
-  rest-left = drop-at x y (24 * recordsIn x) first-long
-
-  -- the log's records are those of the first part, then those of the rest
   first-kept : take (length x) (x ++ y) ≡ x
   first-kept = take-append-seam x y
-
-  rec-first : (i : ℕ) → i < recordsIn x → recAt (x ++ y) i ≡ recAt x i
-  rec-first i h = sym (rec-start (x ++ y) (length x) i (omega (arith, first-long))) ∙ ap (λ (l : List ℕ). recAt l i) first-kept
-
-  rec-rest : (i : ℕ) → recAt (x ++ y) (recordsIn x + i) ≡ recAt y i
-  rec-rest i = rec-cut (x ++ y) (recordsIn x) i ∙ ap (λ (l : List ℕ). recAt l i) rest-left
 
   -- boards and rows of the first part's records do not depend on what follows it
   ran-first : ran (recordsIn x) b (x ++ y) ≡ ran (recordsIn x) b x
@@ -46,10 +36,10 @@ module _ (b : Board) (x y : List ℕ) (between : length x % 24 ≡ 0) (end : len
   rows-first = sym (start-rows b (x ++ y) (length x) (recordsIn x) (omega arith)) ∙ ap (rowsOf (recordsIn x) b) first-kept
 
   pub ran-parts : ran (recordsIn (x ++ y)) b (x ++ y) ≡ ran (recordsIn y) (ran (recordsIn x) b x) y
-  ran-parts = rw (records-add, cut-board b (x ++ y) (recordsIn x) (recordsIn y), rest-left, ran-first)
+  ran-parts = rw (records-add, cut-board b (x ++ y) (recordsIn x) (recordsIn y), rest-left x y between, ran-first)
 
   pub rows-parts : rowsOf (recordsIn (x ++ y)) b (x ++ y) ≡ rowsOf (recordsIn x) b x ++ rowsOf (recordsIn y) (ran (recordsIn x) b x) y
-  rows-parts = rw (records-add, cut-rows b (x ++ y) (recordsIn x) (recordsIn y), rest-left, ran-first, rows-first)
+  rows-parts = rw (records-add, cut-rows b (x ++ y) (recordsIn x) (recordsIn y), rest-left x y between, ran-first, rows-first)
 
   -- the crossings of the log are those of its parts, by the boards' counts
   lives-add : b .clock .crossings + crossingsIn (recordsIn (x ++ y)) (x ++ y) ≡ ran (recordsIn x) b x .clock .crossings + crossingsIn (recordsIn y) y
@@ -67,7 +57,7 @@ module _ (b : Board) (x y : List ℕ) (between : length x % 24 ≡ 0) (end : len
         record {
           whole = first-long;
           space = h;
-          formed = all-formed (recordsIn x) x (λ i l. ap well (sym (rec-first i l)) ∙ formed-at i (omega arith));
+          formed = all-formed (recordsIn x) x (λ i l. ap well (sym (rec-first x y i (omega (arith, first-long)))) ∙ formed-at i (omega arith));
           life = omega (arith, lives-add, r .life, ran-count b x (recordsIn x));
         }
 
@@ -76,6 +66,6 @@ module _ (b : Board) (x y : List ℕ) (between : length x % 24 ≡ 0) (end : len
         record {
           whole = rest-long;
           space = h;
-          formed = all-formed (recordsIn y) y (λ i l. ap well (sym (rec-rest i)) ∙ formed-at (recordsIn x + i) (omega arith));
+          formed = all-formed (recordsIn y) y (λ i l. ap well (sym (rec-rest x y between i)) ∙ formed-at (recordsIn x + i) (omega arith));
           life = omega (arith, lives-add, r .life);
         }

@@ -13,6 +13,8 @@ use Rattle.editions.specs.Read.{ReadOut, readOut}
 use Rattle.editions.specs.Write.{WriteOut, writeOut}
 use Rattle.records.specs.declared.blocks.Tested.{Tested}
 use Rattle.records.specs.support.Blocks.{TestedOut, testedOut}
+use Rattle.salvage.specs.declared.Salvaged.{Salvaged}
+use Rattle.salvage.specs.Salvage.{SalvageOut, salvageOut}
 use Rattle.history.specs.declared.Store.{Store}
 use Rattle.history.specs.declared.scan.Scan.{Scan}
 use Rattle.history.specs.declared.keep.Pen.{Pen}
@@ -106,6 +108,12 @@ one-beside d a b p q =
     (a .0 .board, (a .0 .store, a .1)) (b .0 .board, (b .0 .store, b .1))
     (ap (λ (o : BesideOut). (o .answer, (o .board, (o .store, o .rows)))) (p ∙ sym q))
 
+one-salvage : (d : SalvageOut) → One (λ (o : Salvaged × (List ℕ × List ℕ)). salvageOut (o .0) (o .1 .0) (o .1 .1) ≡ d)
+one-salvage d a b p q =
+    beside (λ (z : Answer) (s : (ℕ × ℕ) × (List ℕ × List ℕ)). (record { answer = z; log = s .0 .0; list = s .0 .1 }, s .1)) (a .0 .answer) (b .0 .answer)
+    ((a .0 .log, a .0 .list), a .1) ((b .0 .log, b .0 .list), b .1)
+    (ap (λ (o : SalvageOut). (o .answer, ((o .log, o .list), (o .salvaged, o .changes)))) (p ∙ sym q))
+
 -- ---- a pen and its words, by the store that they stand for and its scan
 
 one-pen : (p q : Pen) (ws vs : List ℕ) → storeAt ws p ≡ storeAt vs q → Aligned ws p → Aligned vs q → _≡_ {A = Pen × List ℕ} (p, ws) (q, vs)
@@ -135,6 +143,7 @@ one-outcome =
       is-sound-store = λ store. known _;
       read-out = λ κs store buffer. one-read-out _;
       beside = λ κs board store input log rows. one-beside _;
+      salvage = λ κs first log salvaged changes. one-salvage _;
       opened = λ κs text. one-made _;
       run-blocks = λ κs board log rows. one-ran _;
       report-length = λ board. known _;

@@ -42,6 +42,7 @@ use Rattle.throttle.proofs.pass.Reads as pass-contract
 use Rattle.records.proofs.refusal.Reads as refusal-contract
 use Rattle.records.proofs.test_blocks.Reads as test-blocks-contract
 use Rattle.records.proofs.put_row.Reads as put-row-contract
+use Rattle.salvage.proofs.salvage.Reads as salvage-contract
 use Rattle.history.proofs.Store.fresh.Reads as fresh-store-contract
 use Rattle.history.proofs.Store.is_sound.Reads as is-sound-store-contract
 use Rattle.history.proofs.Store.read.Reads as read-out-contract
@@ -78,7 +79,7 @@ OneValue {Out = Out} post came = One (λ (r : Out). post came r came)
 abbrev pub OneFilling : {In Out : Type 0} → (In → Out → In → Type 0) → (Lent → In) → Lent → Type 0
 OneFilling {Out = Out} post with out = One (λ (o : Out × List ℕ). post (with out) (o .0) (with (at-last out (o .1))))
 
--- two are, the carried codes and the believed ones
+-- two are: the carried codes and the believed ones, or a salvaged log and its list
 abbrev pub OneHolding : {In Out : Type 0} → (In → Out → In → Type 0) → (Lent → Lent → In) → Lent → Lent → Type 0
 OneHolding {Out = Out} post with carried believed =
     One (λ (o : Out × (List ℕ × List ℕ)). post (with carried believed) (o .0) (with (at-last carried (o .1 .0)) (at-last believed (o .1 .1))))
@@ -99,6 +100,9 @@ pub record OneOutcome : Type 0 where
   pub read-out : (κs : Lfts 1) (store : Store) (buffer : Lent) → OneFilling (read-out-contract.Post κs) (λ out. (store, (out, tt))) buffer
   pub beside : (κs : Lfts 2) (board : Board) (store : Store) (input : ℕ) (log rows : Lent)
       → OneFilling (beside-contract.Post κs) (λ out. (board, (store, (input, (log, (out, tt)))))) rows
+  -- document 02, P7
+  pub salvage : (κs : Lfts 3) (first : ℕ) (log salvaged changes : Lent)
+      → OneHolding (salvage-contract.Post κs) (λ out list. (first, (log, (out, (list, tt))))) salvaged changes
   -- what else the programs call
   pub opened : (κs : Lfts 1) (text : Lent) → OneValue (opened-contract.Post κs) (text, tt)
   pub run-blocks : (κs : Lfts 2) (board : Board) (log rows : Lent) → OneFilling (run-blocks-contract.Post κs) (λ out. (board, (log, (out, tt)))) rows

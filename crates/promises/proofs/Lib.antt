@@ -1,4 +1,5 @@
 pub mod Refusals
 pub mod WholeLog
 pub mod Stopped
+pub mod Salvaged
 pub mod Promises

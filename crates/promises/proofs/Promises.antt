@@ -20,6 +20,7 @@ use Rattle.bounce.proofs.Sample.{sample}
 use Rattle.history.proofs.Alike.{alike}
 use Rattle.recall.proofs.Blocks.{beside-cut}
 use Rattle.recall.proofs.Recall.{store-changes-nothing, recall}
+use Rattle.faithful.proofs.Faithful.{faithful}
 use Rattle.slots.proofs.Slots.{slots}
 use Rattle.slots.proofs.Rounds.{rounds}
 use Rattle.programs.proofs.Programs.{no-empty-program}
@@ -27,6 +28,7 @@ use Rattle.promises.specs.Promises.{Promises}
 use Rattle.promises.proofs.Refusals.{refusals}
 use Rattle.promises.proofs.WholeLog.{whole-log}
 use Rattle.promises.proofs.Stopped.{stopped}
+use Rattle.promises.proofs.Salvaged.{never-ill-formed}
 
 pub promises : Promises
 promises =
@@ -53,5 +55,7 @@ promises =
       beside-cut = beside-cut;
       recall = recall;
       alike = alike;
+      faithful = faithful;
+      never-ill-formed = never-ill-formed;
       no-empty-program = no-empty-program;
     }

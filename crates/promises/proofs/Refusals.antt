@@ -19,6 +19,8 @@ use Rattle.settings.specs.Relations.{relation, related}
 use Rattle.settings.specs.Standard.{standard}
 use Rattle.editions.specs.Read.{editionOf, laidOut, settled, tested, concluded, readText}
 use Rattle.editions.specs.Write.{written}
+use Rattle.salvage.specs.Salvage.{SalvageOut, refusedWith, salvageOf}
+use Rattle.salvage.proofs.Leaves.{each}
 use Rattle.history.specs.declared.Store.{Store}
 use Rattle.history.specs.Store.{soundStore}
 use Rattle.history.specs.Read.{readBytes, readOf}
@@ -80,6 +82,13 @@ read-refused s buffer e =
     (λ (off : soundStore s ≡ false). rw off)
     (either (soundStore s))
 
+salvage-refused : (first : ℕ) (log salvaged changes : List ℕ) → succeeded (salvageOf first log salvaged changes .answer) ≡ false
+    → salvageOf first log salvaged changes ≡ refusedWith (salvageOf first log salvaged changes .answer) salvaged changes
+salvage-refused first log salvaged changes =
+    each first log salvaged changes (λ (o : SalvageOut). succeeded (o .answer) ≡ false → o ≡ refusedWith (o .answer) salvaged changes)
+    (λ a off e. refl)
+    (λ numbers log-room list-room e. absurd (false≢true (sym e)))
+
 tested-refused : (s : Settings) (a : Told) → succeeded (tested s a .answer) ≡ false → tested s a .settings ≡ standard
 tested-refused s a e =
     ⊎-elim
@@ -110,6 +119,7 @@ refusals =
       block-rows = block-rows;
       beside = beside-refused;
       read-out = read-refused;
+      salvage = salvage-refused;
       writing = λ s buffer e. rw e;
       report = λ b buffer e. rw e;
       reading = reading-refused;

@@ -25,12 +25,14 @@ use Rattle.bounce.specs.Input.{Holding}
 use Rattle.bounce.specs.Bounce.{Bounce, NeverTwice, Sample}
 use Rattle.history.specs.Recall.{Alike}
 use Rattle.recall.specs.Recall.{StoreChangesNothing, BesideCut, Recall}
+use Rattle.faithful.specs.Faithful.{Faithful}
 use Rattle.slots.specs.Slots.{Slots}
 use Rattle.slots.specs.Rounds.{Rounds}
 use Rattle.programs.specs.Programs.{NoEmptyProgram}
 use Rattle.promises.specs.Refusals.{Refusals}
 use Rattle.promises.specs.WholeLog.{WholeLogs}
 use Rattle.promises.specs.Stopped.{Stopped}
+use Rattle.promises.specs.Salvaged.{NeverIllFormed}
 
 -- demand 2, second sentence, and document 02, P2 and P3: text of the newest edition, what is written, and text of any edition; settings have 147 values
 pub record RoundTrips : Type 0 where
@@ -87,5 +89,9 @@ pub record Promises : Type 0 where
   pub beside-cut : BesideCut
   pub recall : Recall
   pub alike : Alike
+  -- document 02, P7: well-formed records pass unchanged and all that come out are well formed, so that no block made of them gets RECORD; the
+  -- list is true; pieces are the whole
+  pub faithful : Faithful
+  pub never-ill-formed : NeverIllFormed
   -- and no program without work meets the contracts
   pub no-empty-program : NoEmptyProgram

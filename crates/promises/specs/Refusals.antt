@@ -10,6 +10,7 @@ use Rattle.settings.specs.declared.Settings.{Settings}
 use Rattle.settings.specs.Standard.{standard}
 use Rattle.editions.specs.Read.{readText}
 use Rattle.editions.specs.Write.{written}
+use Rattle.salvage.specs.Salvage.{refusedWith, salvageOf}
 use Rattle.history.specs.declared.Store.{Store}
 use Rattle.history.specs.Read.{readOf}
 use Rattle.board.specs.declared.Board.{Board}
@@ -30,6 +31,9 @@ pub record Refusals : Type 0 where
   pub beside : (b : Board) (s : Store) (x : ℕ) (log rows : List ℕ) → succeeded (besideOf b s x log rows .answer) ≡ false
       → besideOf b s x log rows ≡ record { answer = besideOf b s x log rows .answer; board = b; store = s; rows = rows }
   pub read-out : (s : Store) (buffer : List ℕ) → succeeded (readOf s buffer .answer) ≡ false → readOf s buffer .buffer ≡ buffer
+  -- document 02, P7: nothing is written, and both buffers have the same bytes
+  pub salvage : (first : ℕ) (log salvaged changes : List ℕ) → succeeded (salvageOf first log salvaged changes .answer) ≡ false
+      → salvageOf first log salvaged changes ≡ refusedWith (salvageOf first log salvaged changes .answer) salvaged changes
   -- a refused reading gives the standard values, a refused fresh board the one made from them
   pub reading : (text : List ℕ) → succeeded (readText text .answer) ≡ false → readText text .settings ≡ standard
   pub fresh : (s : Settings) → succeeded (freshOf s .answer) ≡ false → freshOf s .board ≡ freshBoard standard

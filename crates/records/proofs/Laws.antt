@@ -3,15 +3,15 @@
 use mathlib.Core.Path.{_≡_, refl, ap, ap₂, sym, _∙_}
 use mathlib.Core.Logic.{_⊎_, ⊎-elim}
 use mathlib.Core.Bool.{Bool, true, false, not, _||_, false≢true}
-use mathlib.Core.List.{List, [], _∷_}
-use Prim.Native.Nat.{ℕ, zero, suc, _+_, _-_, _*_, _%_, _≤_, _<_}
-use native.Mathlib.Nat.{add-zero, add-suc, zero-add}
+use mathlib.Core.List.{List, [], _∷_, _++_}
+use Prim.Native.Nat.{ℕ, zero, suc, _+_, _-_, _*_, _%_, _≤_, _<_, min}
+use native.Mathlib.Nat.{add-zero, add-suc, zero-add, zero-min, min-zero, suc-min-suc}
 use native.Mathlib.Numerals.{add-one}
 use native.Mathlib.Omega.{arith}
 use borrow.Author.Tests.{lt-ltb, le-ltb, leb-true, eqb-true, eqb-false}
 use lib.Dec.{leb, eqb, ltb}
 use lib.ListN.{length, getD, take, drop, length-take, length-drop, List·getD-eq-default}
-use lib.Seq.{ext-getD, getD-take, getD-drop, take-take, drop-drop}
+use lib.Seq.{ext-getD, getD-take, getD-drop, take-take, drop-drop, take-append-seam, drop-at}
 use Rattle.laws.specs.Base.{if, one, allB, tabulate}
 use Rattle.laws.proofs.Bools.{both, or-true, if-yes, one-le}
 use Rattle.laws.proofs.Tests.{lt-or-ge}
@@ -50,6 +50,29 @@ rec-bytes log i n long bytes =
     (λ (h : n < 24). rw (rec-byte log i n h) (bytes _))
     (λ (h : 24 ≤ n). let past : length (recAt log i) ≤ n = rw long h in rw (List·getD-eq-default (recAt log i) 0 past) (omega arith))
     (lt-or-ge n 24)
+
+-- those of a log in two parts are those of the first, and where that has whole records, then those of the second
+module _ (a b : List ℕ) where
+  pub rec-first : (i : ℕ) → 24 * i + 24 ≤ length a → recAt (a ++ b) i ≡ recAt a i
+  rec-first i h = sym (rec-start (a ++ b) (length a) i h) ∙ ap (λ (l : List ℕ). recAt l i) (take-append-seam a b)
+
+  module _ (between : length a % 24 ≡ 0) where
+    pub rest-left : drop (24 * recordsIn a) (a ++ b) ≡ b
+    rest-left = drop-at a b (24 * recordsIn a) (omega arith)
+
+    pub rec-rest : (i : ℕ) → recAt (a ++ b) (recordsIn a + i) ≡ recAt b i
+    rec-rest i = rec-cut (a ++ b) (recordsIn a) i ∙ ap (λ (l : List ℕ). recAt l i) rest-left
+
+-- what code lends of a log from a place on, w bytes or what is left
+take-least : (n : ℕ) (l : List ℕ) → take (min n (length l)) l ≡ take n l
+take-least zero l = rw zero-min
+take-least (suc n) [] = rw min-zero
+take-least (suc n) (x ∷ l) = rw suc-min-suc (ap (λ (k : List ℕ). x ∷ k) (take-least n l))
+
+pub part-lent : (w at end : ℕ) (log : List ℕ) → end ≡ min (at + w) (length log) → take (end - at) (drop at log) ≡ take w (drop at log)
+part-lent w at end log e =
+    let to : end - at ≡ min w (length (drop at log)) = rw length-drop (omega arith) in
+    rw to (take-least w (drop at log))
 
 -- what code lends of a block for record i
 pub lent : (log : List ℕ) (i : ℕ) → take (24 * i + 24 - 24 * i) (drop (24 * i) log) ≡ recAt log i
@@ -151,14 +174,14 @@ pub well-kind : (rec : List ℕ) → well rec ≡ true → (wellCrossing rec ≡
 unfolding well
 well-kind rec e = or-true (wellCrossing rec) (wellCommand rec) e
 
-crossing-facts : (rec : List ℕ) → wellCrossing rec ≡ true → (getD rec 0 0 ≡ 0) × (getD rec 1 0 ≤ 1) × (getD rec 3 0 ≤ 15)
+pub crossing-facts : (rec : List ℕ) → wellCrossing rec ≡ true → (getD rec 0 0 ≡ 0) × (getD rec 1 0 ≤ 1) × (getD rec 3 0 ≤ 15)
 unfolding wellCrossing
 crossing-facts rec e =
     let kind = both (eqb (getD rec 0 0) 0) _ e in
     let marker = both (leb (getD rec 1 0) 1) (leb (getD rec 3 0) 15) (kind .1) in
     (eqb-true _ _ (kind .0), leb-true _ _ (marker .0), leb-true _ _ (marker .1))
 
-command-facts : (rec : List ℕ) → wellCommand rec ≡ true
+pub command-facts : (rec : List ℕ) → wellCommand rec ≡ true
     → (getD rec 0 0 ≡ 1) × (getD rec 1 0 ≤ 7) × (1 ≤ getD rec 2 0) × (getD rec 2 0 ≤ 6) × (allB (λ b. eqb b 0) (drop 3 rec) ≡ true)
 unfolding wellCommand
 command-facts rec e =

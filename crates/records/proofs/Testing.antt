@@ -3,9 +3,9 @@
 use mathlib.Core.Path.{_≡_, refl, ap, sym, _∙_}
 use mathlib.Core.Logic.{⊎-elim}
 use mathlib.Core.Bool.{true, false, false≢true}
-use mathlib.Core.List.{List, [], _∷_}
+use mathlib.Core.List.{List}
 use Prim.Native.Nat.{ℕ, zero, suc, _+_, _-_, _*_, _/_, _≤_, _<_, min}
-use native.Mathlib.Nat.{add-zero, zero-add, suc-add, zero-min, min-zero, suc-min-suc, not-suc-le-zero}
+use native.Mathlib.Nat.{add-zero, zero-add, suc-add, not-suc-le-zero}
 use native.Mathlib.Numerals.{add-one}
 use native.Mathlib.Omega.{arith}
 use lib.ListN.{length, take, drop, length-take, length-drop}
@@ -16,19 +16,12 @@ use Rattle.answer.specs.Told.{Told, succeeded, DONE}
 use Rattle.records.specs.Records.{recAt, well, firstIll, crossingsIn}
 use Rattle.records.specs.Refusal.{LIFETIME, recordsIn, refusalOf, Ready}
 use Rattle.records.specs.support.Blocks.{blockCount, blockIn, TestedOut, testedOf}
-use Rattle.records.proofs.Laws.{rec-cut, rec-start, crossings-cut, crossings-start, well-at, all-formed, ready, refusal-settles}
+use Rattle.records.proofs.Laws.{part-lent, rec-cut, rec-start, crossings-cut, crossings-start, well-at, all-formed, ready, refusal-settles}
 
 -- ---- the lent part of the log
 
-take-least : (n : ℕ) (l : List ℕ) → take (min n (length l)) l ≡ take n l
-take-least zero l = rw zero-min
-take-least (suc n) [] = rw min-zero
-take-least (suc n) (x ∷ l) = rw suc-min-suc (ap (λ (k : List ℕ). x ∷ k) (take-least n l))
-
 pub part-is : (log : List ℕ) (i end : ℕ) → end ≡ min (1536 * i + 1536) (length log) → take (end - 1536 * i) (drop (1536 * i) log) ≡ blockIn log i
-part-is log i end e =
-    let to : end - 1536 * i ≡ min 1536 (length (drop (1536 * i) log)) = rw length-drop (omega arith) in
-    rw to (take-least 1536 (drop (1536 * i) log))
+part-is log i end = part-lent 1536 (1536 * i) end log
 
 block-long : (log : List ℕ) (i : ℕ) → length (blockIn log i) ≡ min 1536 (length log - 1536 * i)
 block-long log i = rw (length-take, length-drop)

@@ -1,7 +1,7 @@
 //! The model's own tests: document 01's printed case and worked figures, read with believed codes (document 02, P1), and some of
 //! DESIGN's open points. Those of P1 are in `check_steady.rs`, of P2 in `check_editions.rs` and `check_schedules.rs`, of P3 in
 //! `check_older.rs`, of P5 in `check_rules.rs` and `check_split.rs`, of P6 in `check_store.rs`, `check_sound.rs` and
-//! `check_history.rs`.
+//! `check_history.rs`, of P7 in `check_salvage.rs` and `check_any_log.rs`.
 
 use crate::board::{count, Board, Cycle};
 use crate::edition::{write, Edition, Own};
@@ -11,8 +11,8 @@ use crate::refusal::Refusal;
 use crate::report::{report, row};
 use crate::settings::*;
 use crate::steady::{carried, Held, INPUTS};
+use crate::{check_any_log, check_salvage, check_store, edition};
 use crate::{check_editions, check_history, check_older, check_rules, check_schedules, check_sound, check_split, check_steady};
-use crate::{check_store, edition};
 use std::process::ExitCode;
 
 const PRINTED: &str = "crossings=1\norbit=0\nbc_errors=0\nholder=0\nptc=0\nstate=0\nrequested=1\naccepted=0\nlost_state=1\n\
@@ -25,7 +25,8 @@ pub fn check() -> ExitCode {
     let base = [figures(), merges(), moves(), cycles(), texts(), blocks()].concat();
     let to_p3 = [check_steady::cases(), check_editions::cases(), check_schedules::cases(), check_older::cases()].concat();
     let of_p6 = [check_store::cases(), check_sound::cases(), check_history::cases()].concat();
-    let cases = [base, to_p3, check_rules::cases(), check_split::cases(), of_p6].concat();
+    let of_p7 = [check_salvage::cases(), check_any_log::cases()].concat();
+    let cases = [base, to_p3, check_rules::cases(), check_split::cases(), of_p6, of_p7].concat();
     let failed: Vec<_> = cases.iter().filter(|(_, holds)| !holds).collect();
     failed.iter().for_each(|(name, _)| println!("failed: {name}"));
     println!("{} passed, {} failed", cases.len() - failed.len(), failed.len());

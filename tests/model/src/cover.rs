@@ -1,9 +1,9 @@
-//! How often a range of seeds meets each thing that document 01 names, and document 02 up to P6: the texts are counted in
+//! How often a range of seeds meets each thing that document 01 names, and document 02 up to P7: the texts are counted in
 //! `cover_texts.rs`, what P2 adds to the runs in `cover_schedules.rs`, what P3 adds in `cover_older.rs`, P5 in `cover_rules.rs`, P6
-//! in `cover_history.rs`.
+//! in `cover_history.rs`; and the damage to the logs, which P7 salvages, in `cover_salvage.rs`.
 
 use crate::board::{Board, Cycle, Did, Done, THROTTLE};
-use crate::cover_groups::GROUPS;
+use crate::cover_groups::{GROUPS, ITEMS};
 use crate::cover_history::Histories;
 use crate::cover_older::Source;
 use crate::cover_rules::Rules;
@@ -15,7 +15,7 @@ use crate::refusal::Refusal;
 use crate::steady::{Held, INPUTS};
 
 /// Counts by group and item.
-pub struct Table([[u64; 20]; GROUPS.len()]);
+pub struct Table([[u64; ITEMS]; GROUPS.len()]);
 
 /// The log before a record: what the board held, the records, and the place among them of the last crossing.
 struct Before {
@@ -26,7 +26,7 @@ struct Before {
 
 /// The table over the seeds of a kind, or of all kinds, or nothing for an unknown kind.
 pub fn cover(kind: &str, from: usize, to: usize) -> Option<String> {
-    let mut table = Table([[0; 20]; GROUPS.len()]);
+    let mut table = Table([[0; ITEMS]; GROUPS.len()]);
     for kind in KINDS.iter().filter(|known| kind == "all" || kind == **known) {
         for seed in from..=to {
             let (text, log) = generate(kind, seed)?;
@@ -48,6 +48,7 @@ pub fn cover(kind: &str, from: usize, to: usize) -> Option<String> {
                 Err(refusal) => table.refusal(refusal),
             }
             table.text(&text);
+            table.salvage(&log);
             table.apart(&calibrations);
         }
     }

@@ -1,7 +1,10 @@
 //! What `cover` counts: the rows of its table, in the order in which they are printed.
 
+/// At most so many items has a group.
+pub const ITEMS: usize = 24;
+
 /// Groups of rows with their items, counted by place; a dash is a place that cannot come. A group without items is a row itself.
-pub const GROUPS: [(&str, &str); 73] = [
+pub const GROUPS: [(&str, &str); 91] = [
     ("state", "0 1 2 3 4 5 6 7 8 9 10 11 12 13 14 15 16 17 18 19"),
     ("merged", "none ready warning busy out_of_sync error bad disconnected"),
     ("ignored", "bad disconnected"),
@@ -75,4 +78,22 @@ pub const GROUPS: [(&str, &str); 73] = [
     ("header_over_end", ""),
     ("in_use_over_end", ""),
     ("read_out", "empty all_below_240 all_from_240 some_gone some_gone_below_260 just_240"),
+    ("damage_alone", "marker GTFE reserved kind controller command_0 command_from_7"),
+    ("damage_with_others", "marker GTFE reserved kind controller command_0 command_from_7"),
+    ("marker_to", "0 1"),
+    ("GTFE_to", "0 1_to_14 15"),
+    ("reserved_bytes", "1 2_to_20 21"),
+    ("reserved_at", "3 4_to_22 23"),
+    ("dropped_was", "1 2 3_to_254 255"),
+    ("just_well_formed", "marker_1 GTFE_15 controller_7 command_1 command_6"),
+    ("record_digits", "- 1 2 3 4 5"),
+    ("byte_digits", "- 1 2"),
+    ("was_digits", "- 1 2 3"),
+    ("log_tail", "- 1 2 3 4 5 6 7 8 9 10 11 12 13 14 15 16 17 18 19 20 21 22 23"),
+    ("tail_was", "0 1 from_2"),
+    ("tail_at_edge", "of_64 of_1000 of_4096"),
+    ("mended_at_edge", "end_of_64 begin_of_64 end_of_1000 begin_of_1000 end_of_4096 begin_of_4096 over_65536_bytes"),
+    ("dropped_at_edge", "end_of_64 begin_of_64 end_of_1000 begin_of_1000 end_of_4096 begin_of_4096 over_65536_bytes"),
+    ("piece_of_64", "unchanged all_mended all_dropped longest_list"),
+    ("salvaged", "no_log unchanged all_kept some_dropped all_dropped tail_alone"),
 ];

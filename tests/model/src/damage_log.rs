@@ -39,7 +39,7 @@ fn spoil(random: &mut Random, log: &mut [u8]) {
 }
 
 /// The first wrong value, or any wrong one.
-fn from(random: &mut Random, first: usize) -> u8 {
+pub fn from(random: &mut Random, first: usize) -> u8 {
     let later = first + random.below(256 - first);
     random.pick(&[first, later]) as u8
 }

@@ -4,14 +4,18 @@ use crate::edition::{Edition, Own};
 use crate::journal::{log, Manner};
 use crate::schedules::{resync_first, schedules, standard};
 use crate::settings::*;
-use crate::{damage_log, damage_text, history, rules};
+use crate::{damage_log, damage_text, disk, history, rules};
 
-pub const KINDS: [&str; 7] = ["valid", "edge", "text", "log", "standard", "rules", "history"];
+pub const KINDS: [&str; 8] = ["valid", "edge", "text", "log", "standard", "rules", "history", "salvage"];
 
 /// A xorshift generator (Marsaglia), of which the upper bits are used.
 pub struct Random(u64);
 
 impl Random {
+    pub fn of(start: usize) -> Random {
+        Random(start.wrapping_mul(0x9E37_79B9_7F4A_7C15) as u64 | 1)
+    }
+
     pub fn below(&mut self, bound: usize) -> usize {
         self.0 ^= self.0 << 13;
         self.0 ^= self.0 >> 7;
@@ -29,16 +33,17 @@ impl Random {
     }
 }
 
-/// The settings text, in each edition for every third seed, and the log of a seed, or nothing for an unknown kind. `rules` and
-/// `history` came later; they start elsewhere, so that the cases of the other kinds stay as they were.
+/// The settings text, in each edition for every third seed, and the log of a seed, or nothing for an unknown kind. `rules`,
+/// `history` and `salvage` came later; they start elsewhere, so that the cases of the other kinds stay as they were.
 pub fn generate(kind: &str, seed: usize) -> Option<(Vec<u8>, Vec<u8>)> {
     let place = KINDS.iter().position(|known| *known == kind)?;
     let start = match kind {
         "rules" => usize::MAX - seed,
         "history" => usize::MAX / 2 - seed,
+        "salvage" => usize::MAX / 3 - seed,
         _ => seed * 5 + place + 1,
     };
-    let random = &mut Random(start.wrapping_mul(0x9E37_79B9_7F4A_7C15) as u64 | 1);
+    let random = &mut Random::of(start);
     let edition = [Edition::First, Edition::Second, Edition::Third][seed % 3];
     if kind == "rules" || kind == "history" {
         let settings = if kind == "rules" { rules::settings(random, edition) } else { history::settings(random, edition) };
@@ -51,6 +56,7 @@ pub fn generate(kind: &str, seed: usize) -> Option<(Vec<u8>, Vec<u8>)> {
         "edge" if random.once_in(5) => (long_window(random, edition), Manner::Standard, 4000 + random.below(5000)),
         "edge" => (edge(random, edition), Manner::Edge, 1000 + random.below(5000)),
         "standard" => (standard(random, edition), Manner::Standard, 8000 + random.below(5000)),
+        "salvage" => (short(random, edition), Manner::Lively, disk::records(random, seed)),
         _ if random.once_in(3) => (standard(random, edition), Manner::Lively, 40 + random.below(300)),
         _ => (short(random, edition), Manner::Lively, 40 + random.below(300)),
     };
@@ -59,6 +65,7 @@ pub fn generate(kind: &str, seed: usize) -> Option<(Vec<u8>, Vec<u8>)> {
     Some(match kind {
         "text" => (damage_text::text(random, edition, own, seed), log),
         "log" => (edition.text(&own).into_bytes(), damage_log::log(random, log)),
+        "salvage" => (edition.text(&own).into_bytes(), disk::log(random, log, seed)),
         _ => (edition.text(&own).into_bytes(), log),
     })
 }

@@ -1,11 +1,13 @@
-//! An independent model of document 01 (the trigger desk) and document 02 up to P6, to test the product against. See README.md.
+//! An independent model of document 01 (the trigger desk) and document 02 up to P7, to test the product against. See README.md.
 
 mod board;
 mod check;
+mod check_any_log;
 mod check_editions;
 mod check_history;
 mod check_older;
 mod check_rules;
+mod check_salvage;
 mod check_schedules;
 mod check_sound;
 mod check_split;
@@ -16,11 +18,14 @@ mod cover_groups;
 mod cover_history;
 mod cover_older;
 mod cover_rules;
+mod cover_salvage;
 mod cover_schedules;
 mod cover_texts;
 mod damage_log;
+mod damage_record;
 mod damage_text;
 mod damage_values;
+mod disk;
 mod edition;
 mod generate;
 mod history;
@@ -31,6 +36,7 @@ mod program;
 mod refusal;
 mod report;
 mod rules;
+mod salvage;
 mod schedules;
 mod settings;
 mod sound;
@@ -42,8 +48,8 @@ use std::io::Write;
 use std::process::ExitCode;
 use std::{env, fs};
 
-const USAGE: &str = "model report DIR | rows DIR | edition DIR | history DIR INPUT | refusal DIR | generate KIND SEED DIR | \
-    cover KIND|all FROM TO | check";
+const USAGE: &str = "model report DIR | rows DIR | edition DIR | history DIR INPUT | salvage DIR OUT | refusal DIR | \
+    generate KIND SEED DIR | cover KIND|all FROM TO | check";
 
 fn main() -> ExitCode {
     let arguments: Vec<String> = env::args().skip(1).collect();
@@ -53,6 +59,7 @@ fn main() -> ExitCode {
         ["rows", dir] => Some(run(dir, |_, rows| rows)),
         ["edition", dir] => Some(program::edition(&board_set(dir)).into_bytes()),
         ["history", dir, input] => input.parse().ok().map(|input| program::history(&board_set(dir), &run_rec(dir), input)),
+        ["salvage", dir, out] => salvage(dir, out),
         ["refusal", dir] => Some(refusal(dir).into_bytes()),
         ["generate", kind, seed, dir] => seed.parse().ok().and_then(|seed| generate(kind, seed, dir)),
         ["cover", kind, from, to] => cover(kind, from, to),
@@ -84,6 +91,19 @@ fn board_set(dir: &str) -> Vec<u8> {
 
 fn run_rec(dir: &str) -> Vec<u8> {
     fs::read(format!("{dir}/run.rec")).unwrap_or_default()
+}
+
+/// `desk_salvage` "reads `run.rec` alone and writes `salvaged.rec` and `changes.txt` beside it"; here they go to another folder, so
+/// that the product's own are not overwritten.
+fn salvage(dir: &str, out: &str) -> Option<Vec<u8>> {
+    fs::create_dir_all(out).expect("the folder can be made");
+    if fs::canonicalize(dir).ok() == fs::canonicalize(out).ok() {
+        return None;
+    }
+    let (salvaged, list) = salvage::salvage(&run_rec(dir), 0);
+    fs::write(format!("{out}/salvaged.rec"), salvaged).expect("salvaged.rec can be written");
+    fs::write(format!("{out}/changes.txt"), list).expect("changes.txt can be written");
+    Some(Vec::new())
 }
 
 /// The number of the refusal of `board.set` and what it carries; nothing for good text.

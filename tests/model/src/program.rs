@@ -101,7 +101,7 @@ fn check(block: &[u8]) -> Result<(), Refusal> {
 
 /// "Crossing: byte 0 = 0; byte 1 = orbit marker 0 or 1; ... byte 3 = GTFE code 0..15. Command: byte 0 = 1; byte 1 =
 /// controller 0..7; byte 2 = command 1..6; the rest 0. Anything else is ill-formed."
-fn well_formed(record: &[u8]) -> bool {
+pub fn well_formed(record: &[u8]) -> bool {
     match record[0] {
         0 => record[1] <= 1 && record[3] <= 15,
         1 => record[1] <= 7 && (1..=6).contains(&record[2]) && record[3..].iter().all(|&byte| byte == 0),

@@ -1,5 +1,5 @@
 //! Document 01, "Numbers a caller may get back", with document 02, P2 and P6. BOARD, ROOM, LIFE and STORE cannot come from files;
-//! BOARD and STORE are here for a block with a store beside the board, ROOM for the read-out.
+//! BOARD and STORE are here for a block with a store beside the board, ROOM for the read-out and the salvaged log (P7).
 
 /// What is refused and what it carries: TEXT the line, RANGE the line or the input, RELATION its number and the controller, ROOM
 /// the bytes needed, RECORD the index.

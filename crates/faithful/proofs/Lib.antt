@@ -1,0 +1,11 @@
+pub mod Mending
+pub mod Passing
+pub mod Joining
+pub mod Forming
+pub mod Amid
+pub mod Finding
+pub mod Giving
+pub mod Reading
+pub mod Pieces
+pub mod Room
+pub mod Faithful
