@@ -5,13 +5,13 @@ use Rattle.faithful.proofs.Passing.{log-passes}
 use Rattle.faithful.proofs.Forming.{all-formed, never-record, again}
 use Rattle.faithful.proofs.Amid.{record-passes}
 use Rattle.faithful.proofs.Finding.{all-found, rises}
-use Rattle.faithful.proofs.Giving.{gives}
+use Rattle.faithful.proofs.Giving.{gives, alone}
 use Rattle.faithful.proofs.Reading.{one-list}
 use Rattle.faithful.proofs.Pieces.{pieces}
 use Rattle.faithful.proofs.Room.{room-enough}
 
 pub list-is-true : ListIsTrue
-list-is-true first log = record { found = all-found first log; rising = rises first log; gives = gives first log }
+list-is-true first log = record { found = all-found first log; rising = rises first log; gives = gives first log; alone = alone first log }
 
 pub faithful : Faithful
 faithful =

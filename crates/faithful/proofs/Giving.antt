@@ -1,8 +1,8 @@
--- Doing what the list says to the log gives the salvaged log.
+-- Doing what the list says to the log gives the salvaged log, and to what it drops it does nothing else.
 -- The entries of other records leave part n as it is, and its own make each byte its mend, or drop it.
 use mathlib.Core.Path.{_≡_, refl, ap, sym, _∙_}
 use mathlib.Core.Logic.{⊎-elim}
-use mathlib.Core.Bool.{Bool, true, false, _&&_, _||_, and-false, or-false, or-assoc}
+use mathlib.Core.Bool.{Bool, true, false, _&&_, _||_, and-false, or-false, or-assoc, false≢true}
 use mathlib.Core.List.{List, [], _∷_, _++_}
 use Prim.Native.Nat.{ℕ, zero, suc, _+_, _≤_, _<_}
 use native.Mathlib.Omega.{arith}
@@ -192,3 +192,14 @@ parts-after first log all (suc n) h =
 
 pub gives : (first : ℕ) (log : List ℕ) → logAfter (changesIn first log) first log ≡ salvagedLog log
 gives first log = parts-after first log (partsIn log) (partsIn log) (omega arith)
+
+-- what is dropped is no kept part, whose entries drop nothing
+pub alone : (first : ℕ) (log : List ℕ) (i k b : ℕ) → i < partsIn log → isDropped (changesIn first log) (first + i) ≡ true → byteAfter (changesIn first log) (first + i) k b ≡ b
+alone first log i k b h d =
+    let n = first + i in
+    let part = recAt log i in
+    let own = own-entries first log (partsIn log) i h in
+    ⊎-elim
+    (λ (e : isKept part ≡ true). absurd (false≢true (sym (own .dropped ∙ rw (entries-kept n part e) (bytes-keep n part 24 n)) ∙ d)))
+    (λ (e : isKept part ≡ false). own .bytes k b ∙ rw (entries-dropped n part e))
+    (either (isKept part))

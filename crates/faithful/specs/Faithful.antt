@@ -10,7 +10,7 @@ use Rattle.records.specs.Refusal.{recordsIn, refusalOf}
 use Rattle.salvage.specs.Mending.{partsIn, salvagedLog}
 use Rattle.salvage.specs.Changes.{Change, changesIn, listText}
 use Rattle.salvage.specs.Salvage.{MOST, salvageOf}
-use Rattle.faithful.specs.Doing.{logAfter, AllFound, Rising}
+use Rattle.faithful.specs.Doing.{byteAfter, isDropped, logAfter, AllFound, Rising}
 
 -- a log of well-formed records
 pub record Formed (log : List ℕ) : Type 0 where
@@ -45,6 +45,8 @@ pub record TrueList (first : ℕ) (log : List ℕ) : Type 0 where
   pub found : AllFound first log (changesIn first log)
   pub rising : Rising (24 * first) (changesIn first log)
   pub gives : logAfter (changesIn first log) first log ≡ salvagedLog log
+  -- to a part that it drops it does nothing else
+  pub alone : (i k b : ℕ) → i < partsIn log → isDropped (changesIn first log) (first + i) ≡ true → byteAfter (changesIn first log) (first + i) k b ≡ b
 
 abbrev pub ListIsTrue : Type 0
 ListIsTrue = (first : ℕ) (log : List ℕ) → TrueList first log
