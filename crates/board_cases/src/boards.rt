@@ -1,5 +1,6 @@
 // Boards changed one value at a time, and compared value by value.
 use board::Board;
+use cases::byte;
 use clock::Clock;
 use clock::Turn;
 use counts::ByRule;
@@ -10,10 +11,6 @@ use ptc::Ptc;
 use settings::Settings;
 use steady::Held;
 ghost use Prim.Native.Nat.{_<_};
-
-pub(crate) fn byte(n: u64) -> u8 {
-    (n % 256) as u8
-}
 
 fn small(n: u64) -> u32 {
     (n % 4294967296) as u32

@@ -8,7 +8,6 @@ mod boards;
 
 use board::Board;
 use boards::are_same_settings;
-use boards::byte;
 use boards::is_same;
 use boards::set_clock;
 use boards::set_codes;
@@ -19,8 +18,10 @@ use boards::set_setting;
 use cases::Words;
 use cases::after;
 use cases::at_most;
+use cases::byte;
 use cases::end_line;
 use cases::line_end;
+use cases::record_of;
 use cases::say_answer;
 use cases::say_comment;
 use cases::say_left;
@@ -35,21 +36,6 @@ ghost use lib.ListN.{length};
 struct Log {
     bytes: [u8; 960],
     long: usize,
-}
-
-fn rest(kind: u8) -> u8 {
-    if kind == 0 { 0x88 } else { 0 }
-}
-
-// A crossing has every code 8 but the GTFE's, which is the last number; a command's other bytes are 0.
-fn record_of(w: Words) -> [u8; 24] {
-    let kind = byte(w.a);
-    let mut rec = [rest(kind); 24];
-    rec[0] = kind;
-    rec[1] = byte(w.b);
-    rec[2] = byte(w.c);
-    rec[3] = byte(w.d);
-    rec
 }
 
 // Where the rows of a log end, as far as they fit into the room; a refused block writes none.
@@ -92,18 +78,17 @@ impl Log {
     }
 
     // One record more, where there is room.
-    fn with_record(mut self, rec: [u8; 24]) -> Log {
+    fn with_record(self, rec: [u8; 24]) -> Log {
         let at = self.long;
         if 936 < at {
             return self;
         }
-        let mut k = 0;
-        while k < 24 {
-            self.bytes[at + k] = rec[k];
-            k += 1;
+        let mut bytes = self.bytes;
+        text::put_bytes(&mut bytes, at, &rec);
+        Log {
+            bytes: bytes,
+            long: at + 24,
         }
-        self.long = at + 24;
-        self
     }
 
     fn with_length(mut self, n: usize) -> Log {

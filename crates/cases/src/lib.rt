@@ -1,6 +1,7 @@
 // What the case programs share: the lines of their input, and how they print texts, numbers, answers and bytes.
 mod bytes;
 mod line;
+mod record;
 
 use answer::Answer;
 pub use bytes::say_left;
@@ -10,6 +11,8 @@ use libc::STDOUT_FILENO;
 pub use line::Words;
 pub use line::at_most;
 pub use line::words_of;
+pub use record::byte;
+pub use record::record_of;
 ghost use mathlib.Core.Path.{_≡_};
 ghost use Prim.Native.Nat.{_+_, _≤_, min};
 ghost use lib.ListN.{length};

@@ -6,8 +6,10 @@
 use cases::Words;
 use cases::after;
 use cases::at_most;
+use cases::byte;
 use cases::end_line;
 use cases::line_end;
+use cases::record_of;
 use cases::say;
 use cases::say_answer;
 use cases::say_comment;
@@ -30,27 +32,8 @@ struct Log {
     first: u64,
 }
 
-fn byte(n: u64) -> u8 {
-    (n % 256) as u8
-}
-
 fn higher(v: u8, step: u8) -> u8 {
     byte(v as u64 + step as u64)
-}
-
-fn rest(kind: u8) -> u8 {
-    if kind == 0 { 0x88 } else { 0 }
-}
-
-// A crossing has every code 8 but the GTFE's, which is the last number; other kinds have 0 there.
-fn record_of(w: Words) -> [u8; 24] {
-    let kind = byte(w.a);
-    let mut rec = [rest(kind); 24];
-    rec[0] = kind;
-    rec[1] = byte(w.b);
-    rec[2] = byte(w.c);
-    rec[3] = byte(w.d);
-    rec
 }
 
 impl Log {
@@ -63,18 +46,18 @@ impl Log {
     }
 
     // One record more, where there is room.
-    fn with_record(mut self, rec: [u8; 24]) -> Log {
+    fn with_record(self, rec: [u8; 24]) -> Log {
         let at = self.long;
         if 216 < at {
             return self;
         }
-        let mut k = 0;
-        while k < 24 {
-            self.bytes[at + k] = rec[k];
-            k += 1;
+        let mut bytes = self.bytes;
+        text::put_bytes(&mut bytes, at, &rec);
+        Log {
+            bytes: bytes,
+            long: at + 24,
+            first: self.first,
         }
-        self.long = at + 24;
-        self
     }
 
     fn with_bytes(mut self, at: usize, value: u8, more: usize, step: u8) -> Log

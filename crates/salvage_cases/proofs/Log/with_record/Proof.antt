@@ -1,59 +1,38 @@
 -- `salvage_cases::Log::with_record` is safe and ends: the record's 24 bytes begin at or before place 216 of 240.
--- What is left of the count is the measure.
-use Prim.Native.Nat.{_-_, _≤_}
+-- Both arrays are as long as their types say.
+use mathlib.Core.Path.{_≡_}
+use Prim.Native.Nat.{_-_}
+use native.Mathlib.Omega.{arith}
 use borrow.Author.Needs.{needs}
+use lib.ListN.{length}
 use Rattle.salvage_cases.proofs.Log.with_record.Statement.{statement}
 use Rattle.salvage_cases.proofs.Log.with_record.Tie as tie
 
-abbrev Inv-loop : tie.InvT-loop
-Inv-loop self₀ rec at k₀ self k = k ≤ 24
+bytes-long : (s : tie.Start) → length (s .args .self .bytes) ≡ 240
+bytes-long s = search needs
 
-abbrev μ-loop : tie.MeasureT-loop
-μ-loop self₀ rec at k₀ self k = 24 - k
+record-long : (s : tie.Start) → length (s .args .t2) ≡ 24
+record-long s = search needs
 
-returns : tie.Need-returns Inv-loop μ-loop
+returns : tie.Need-returns
 returns c = search needs
 
-loop-holds : tie.Need-loop-holds Inv-loop μ-loop
-loop-holds c = search needs
+slice-aggregate-put-bytes : tie.Need-slice-aggregate-put-bytes
+slice-aggregate-put-bytes c = search needs
 
-array-read-self : tie.Need-array-read-self Inv-loop μ-loop
-array-read-self c = search needs
+slice-aggregate-put-bytes-2 : tie.Need-slice-aggregate-put-bytes-2
+slice-aggregate-put-bytes-2 c = search needs
 
-add-self : tie.Need-add-self Inv-loop μ-loop
-add-self c = search needs
+put-bytes-requires : tie.Need-put-bytes-requires
+put-bytes-requires c κs =
+    let e = c .before .before .before in
+    omega (arith, bytes-long (e .before), record-long (e .before), e .if1 .left)
 
-element-write-self : tie.Need-element-write-self Inv-loop μ-loop
-element-write-self c = search needs
+add-t7 : tie.Need-add-t7
+add-t7 c = search needs
 
-add-k : tie.Need-add-k Inv-loop μ-loop
-add-k c = search needs
-
-loop-less : tie.Need-loop-less Inv-loop μ-loop
-loop-less c = search needs
-
-loop-again : tie.Need-loop-again Inv-loop μ-loop
-loop-again c = search needs
-
-add-self-2 : tie.Need-add-self-2 Inv-loop μ-loop
-add-self-2 c = search needs
-
-returns-2 : tie.Need-returns-2 Inv-loop μ-loop
+returns-2 : tie.Need-returns-2
 returns-2 c = search needs
 
 pub with-record-spec : {M : Type 1} → statement M
-with-record-spec =
-    tie.close
-    (tie.spec
-    Inv-loop
-    μ-loop
-    returns
-    loop-holds
-    array-read-self
-    add-self
-    element-write-self
-    add-k
-    loop-less
-    loop-again
-    add-self-2
-    returns-2)
+with-record-spec = tie.close (tie.spec returns slice-aggregate-put-bytes slice-aggregate-put-bytes-2 put-bytes-requires add-t7 returns-2)
