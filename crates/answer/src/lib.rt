@@ -1,4 +1,6 @@
 // What a caller is told: that the call was done, or one of the numbered refusals (document 01, "Numbers a caller may get back").
+#![tactic(auto)]
+
 ghost use Rattle.std.specs.Prelude.{◌≡◌};
 ghost use Rattle.answer.specs.Told.{told, succeeded};
 

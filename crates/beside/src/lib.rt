@@ -1,4 +1,6 @@
 // A block run with a store beside the board, which follows one input's believed code (document 02, P6).
+#![tactic(auto)]
+
 mod following;
 
 ghost use Rattle.std.specs.Prelude.{◌≡◌};

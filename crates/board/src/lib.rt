@@ -1,4 +1,6 @@
 // The board: settings, clock, slot, eight controllers, held codes and marks, through one crossing, one command and one block of records.
+#![tactic(auto)]
+
 mod blocks;
 mod sound;
 

@@ -1,4 +1,6 @@
 // The clock and the slot: a crossing's number, the orbit count, the holder and the hand-over (document 01, step 1 of "One crossing").
+#![tactic(auto)]
+
 ghost use Rattle.std.specs.Prelude.{◌≡◌, not, ◌&&◌, ◌+◌, ◌<◌, ◌≤◌, ◌^◌, eqb, get_or};
 ghost use Rattle.laws.specs.Base.{all_b};
 ghost use Rattle.clock.specs.Clock.{number_of, orbit_ends, next_of, ticked_of, sound_clock};

@@ -1,4 +1,6 @@
 // The run counts of one controller: requests by their fate, and calibration triggers (document 01, "Report"; document 02, P5).
+#![tactic(auto)]
+
 mod fates;
 mod sound;
 

@@ -1,4 +1,6 @@
 // The settings text, read in any edition that the desk knows and written in the newest (documents 01, "Settings text", and 02, P2 and P3).
+#![tactic(auto)]
+
 mod tables;
 
 ghost use Rattle.std.specs.Prelude.{◌≡◌, ◌<◌, ◌≤◌, length, take};

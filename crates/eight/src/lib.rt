@@ -1,4 +1,6 @@
 // The eight controllers side by side: whether all are sound, and the clock after a crossing, which controller 0 may set back.
+#![tactic(auto)]
+
 ghost use Rattle.std.specs.Prelude.{◌≡◌, ◌%◌, ◌<◌, ◌^◌, eqb};
 ghost use Rattle.laws.specs.Base.{if};
 ghost use Rattle.clock.specs.Support.Room.{ClockRoom};

@@ -1,4 +1,6 @@
 // One input through a crossing: its believed code, and the change that a store keeps of it (document 02, P6).
+#![tactic(auto)]
+
 ghost use Rattle.std.specs.Prelude.{◌≡◌, ◌/◌, ◌%◌, ◌≤◌, ◌<◌, length, get_or};
 ghost use Rattle.laws.specs.Base.{if};
 ghost use Rattle.status.specs.Codes.{code_at};

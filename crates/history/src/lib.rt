@@ -1,4 +1,6 @@
 // The status history store (document 02, P6; the manual's chapter 5): the last changes of one input's believed code, in 1,024 words.
+#![tactic(auto)]
+
 mod keep;
 mod read;
 mod scan;

@@ -1,4 +1,6 @@
 // The one table of fixed byte strings: every key of the settings text and of the report, each with its `=`, lent in parts to readers and writers.
+#![tactic(auto)]
+
 mod ranges;
 
 ghost use Rattle.std.specs.Prelude.{◌≡◌, ◌+◌, ◌*◌, ◌<◌, ◌≤◌, length, drop};

@@ -1,4 +1,6 @@
 // What of the settings a crossing goes by, laid out once for many crossings.
+#![tactic(auto)]
+
 ghost use Rattle.std.specs.Prelude.{◌≡◌};
 ghost use Rattle.kit.specs.Kit.{slots_of};
 ghost use Rattle.kit.specs.Support.Laid.{times_for, busy_of, kit_of};

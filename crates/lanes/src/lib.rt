@@ -1,5 +1,7 @@
 // The merge of status codes by lanes: byte k of a word, its lane k, has bit r where a member of controller k has class r. Or-ing two
 // words merges them for all eight controllers at once.
+#![tactic(auto)]
+
 ghost use Rattle.std.specs.Prelude.{◌≡◌, ◌≤◌, ◌<◌, get_or};
 ghost use Rattle.status.specs.Support.Merger.{half};
 ghost use Rattle.lanes.specs.Support.Lanes.{bit_of, in_lane, in_all, rank_of, entry_of, table_of, pair_of, lanes_of, top_of, class_in, lane_classes};

@@ -1,4 +1,6 @@
 // Functions on plain values that several crates call: as calls they leave a proof one path, where `&&` or `if` leave two.
+#![tactic(auto)]
+
 ghost use Rattle.std.specs.Prelude.{◌≡◌, ◌&&◌, min};
 ghost use Rattle.laws.specs.Base.{one};
 

@@ -1,4 +1,6 @@
 // One partition controller: through a crossing, and under a command (document 01, "States", "Cycle and trigger").
+#![tactic(auto)]
+
 mod cycle;
 mod sound;
 

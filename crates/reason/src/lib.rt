@@ -1,4 +1,6 @@
 // What is told of an answer, as lines: its number, the values that it carries, and for a log the block that is refused.
+#![tactic(auto)]
+
 ghost use Rattle.std.specs.Prelude.{◌≡◌, [], ◌∷◌, ◌+◌, ◌*◌, ◌≤◌, length};
 ghost use Rattle.answer.specs.Told.{told};
 ghost use Rattle.text.specs.Bytes.{put};

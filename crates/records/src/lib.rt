@@ -1,4 +1,6 @@
 // The 24-byte records of a log, and the 12-byte rows that answer them (document 01, "Records and rows").
+#![tactic(auto)]
+
 mod blocks;
 mod rows;
 

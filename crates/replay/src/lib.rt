@@ -1,4 +1,6 @@
 // A bench's files through the desk: the board that a settings text opens, and a log run in blocks of 64 records.
+#![tactic(auto)]
+
 ghost use Rattle.std.specs.Prelude.{◌≡◌};
 ghost use Rattle.board.specs.Fresh.{made_out};
 ghost use Rattle.board.specs.Block.{ran_out};

@@ -1,4 +1,6 @@
 // The report's text (document 01, "Report"; document 02, P5).
+#![tactic(auto)]
+
 ghost use Rattle.std.specs.Prelude.{◌≡◌, ◌+◌, ◌<◌, ◌≤◌, ltb, length};
 ghost use Rattle.text.specs.Bytes.{put};
 ghost use Rattle.settings.specs.Names.{slot_of};

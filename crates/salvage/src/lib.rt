@@ -1,4 +1,6 @@
 // Salvage of a log (document 02, P7): any bytes in, a log of well-formed records and a list of what was changed out.
+#![tactic(auto)]
+
 mod list;
 mod mending;
 

@@ -1,4 +1,6 @@
 // The settings: their 147 values by name, the standard ones, and the check that any must pass (documents 01, "Settings text", and 02, P2 and P3).
+#![tactic(auto)]
+
 mod names;
 mod relations;
 mod table;

@@ -1,4 +1,6 @@
 // What a board must be (document 01, "Sound"), for any values at all of its six parts.
+#![tactic(auto)]
+
 ghost use Rattle.std.specs.Prelude.{◌≡◌};
 ghost use Rattle.soundness.specs.Sound.{sound_parts};
 

@@ -1,4 +1,6 @@
 // The states of a partition controller: their moves, their waits, and the commands that they take (document 01, "States").
+#![tactic(auto)]
+
 mod commands;
 mod moves;
 mod sound;

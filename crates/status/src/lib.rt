@@ -1,4 +1,6 @@
 // The status of a controller: a code's class, and the merge of all its members (document 01, step 2 of "One crossing").
+#![tactic(auto)]
+
 ghost use Rattle.std.specs.Prelude.{◌≡◌, ◌<◌};
 ghost use Rattle.laws.specs.Base.{tabulate};
 ghost use Rattle.status.specs.Class.{emulator, class_of, counted};

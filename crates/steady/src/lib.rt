@@ -1,4 +1,6 @@
 // What the inputs are believed to carry (document 02, P1): a code counts when the same input carried it in two consecutive crossings.
+#![tactic(auto)]
+
 ghost use Rattle.std.specs.Prelude.{◌≡◌, true, ℕ, ◌<◌, length, get_or};
 ghost use Rattle.words.specs.Same.{same_bytes};
 ghost use Rattle.steady.specs.Steady.{steady, steady_byte, believed_of};

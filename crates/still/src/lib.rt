@@ -1,5 +1,7 @@
 // What a crossing sees before any controller moves, and which controllers it has to look at: most crossings of a log find every
 // controller where it was, and then only those that ask matter.
+#![tactic(auto)]
+
 ghost use Rattle.std.specs.Prelude.{◌≡◌, true, not, ◌||◌, ℕ, ◌+◌, ◌*◌, ◌%◌, ◌<◌, ◌≤◌, eqb, length, get_or};
 ghost use Rattle.status.specs.Codes.{Coded};
 ghost use Rattle.lanes.specs.Support.Lanes.{lane_classes};

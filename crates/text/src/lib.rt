@@ -1,4 +1,6 @@
 // Lines of text: bytes compared, decimal numbers read and written, and lines `key=value` over a key and a range.
+#![tactic(auto)]
+
 ghost use Rattle.std.specs.Prelude.{◌≡◌, ◌+◌, ◌<◌, ◌≤◌, length, drop};
 ghost use Rattle.text.specs.Bytes.{put, starts};
 ghost use Rattle.text.specs.Decimal.{decimal};

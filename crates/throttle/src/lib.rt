@@ -1,5 +1,7 @@
 // The throttle: the marks of the last 2,047 crossings, and the four rules over them (document 01, "Throttle").
 // The marks are a ring of bits: crossing c has bit c % 64 of word c / 64 % 32. They are lent, since a copy costs more than a rule.
+#![tactic(auto)]
+
 ghost use Rattle.std.specs.Prelude.{◌≡◌, ◌+◌, ◌-◌, ◌<◌, ◌≤◌, ◌^◌, leb};
 ghost use Rattle.std.specs.Int.Count.{ones_in};
 ghost use Rattle.throttle.specs.Marks.{bit_at, put_bit, mark_at, marked, passed, among};

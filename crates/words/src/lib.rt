@@ -1,4 +1,6 @@
 // Bytes as words: eight bytes are one load, so two sets of codes are compared in three steps.
+#![tactic(auto)]
+
 ghost use Rattle.std.specs.Prelude.{◌≡◌, ◌&&◌, ◌+◌, ◌≤◌, ◌<◌, eqb, length};
 ghost use Rattle.words.specs.Same.{same_bytes};
 ghost use Rattle.words.specs.Support.Words.{half_at, word_at};
