@@ -4,7 +4,6 @@ use mathlib.Core.Path.{◌≡◌, sym, ◌∙◌}
 use mathlib.Core.Bool.{Bool, true, ◌&&◌}
 use mathlib.Core.List.{List}
 use Prim.Native.Nat.{ℕ}
-use borrow.Author.Rules.{rules}
 use lib.ListN.{length}
 use Rattle.laws.proofs.Bools.{both}
 use Rattle.words.specs.Same.{same_bytes}
@@ -12,8 +11,7 @@ use Rattle.words.proofs.Laws.{same_lists}
 use Rattle.steady.specs.Steady.{believed_of}
 use Rattle.steady.specs.Support.News.{news_of}
 use Rattle.steady.proofs.Laws.{firm, no_news}
-use Rattle.steady.proofs.follow.Statement.{statement}
-use Rattle.steady.proofs.follow.Tie as tie
+use Rattle.steady.proofs.follow.Goals as goal
 
 module _ (carried believed codes : List ℕ) (c : length carried ≡ 21) (n : length codes ≡ 21) where
   untouched : (firmly same tested : Bool) → (firmly ≡ true → believed ≡ carried) → same ≡ same_bytes 21 carried codes → tested ≡ (firmly && same) → tested ≡ true
@@ -29,42 +27,10 @@ module _ (carried believed codes : List ℕ) (c : length carried ≡ 21) (n : le
   unfolding news_of
   told same stays after s a e = rw (e, a, s)
 
-same-requires : tie.Need-same-requires
-same-requires c κs = search rules
+pub returns-then-both : goal.returns-then-both
+returns-then-both c =
+    untouched c.args.carried.now c.args.believed.now c.args.codes.now c.requires.0 c.requires.2 _ _ _ c.requires.3 c.same-same.ensures c.both.ensures c.if-both.true
 
-both-requires : tie.Need-both-requires
-both-requires c κs = search rules
-
-returns : tie.Need-returns
+pub returns : goal.returns
 returns c =
-    let s = c.before.before in
-    let a = s.before.before.before.before in
-    untouched a.args.carried.now a.args.believed.now a.args.codes.now a.requires.0 a.requires.2 _ _ _ a.requires.3 s.same.ensures c.before.both.ensures c.if1.true
-
-believe-requires : tie.Need-believe-requires
-believe-requires c κs = search rules
-
-slice-aggregate-same : tie.Need-slice-aggregate-same
-slice-aggregate-same c = search rules
-
-same-requires-2 : tie.Need-same-requires-2
-same-requires-2 c κs = search rules
-
-returns-2 : tie.Need-returns-2
-returns-2 c =
-    let b = c.before.before.before.before in
-    let s = b.before.before.before.before.before.before in
-    let a = s.before.before.before.before in
-    (told a.args.carried.now a.args.believed.now a.args.codes.now a.requires.0 a.requires.2 _ _ _ s.same.ensures b.believe.ensures.0 c.same2.ensures, b.believe.ensures.0, b.believe.ensures.1)
-
-pub follow_spec : {M : Type 1} → statement M
-follow_spec =
-    tie.close
-    (tie.spec
-    same-requires
-    both-requires
-    returns
-    believe-requires
-    slice-aggregate-same
-    same-requires-2
-    returns-2)
+    (told c.args.carried.now c.args.believed.now c.args.codes.now c.requires.0 c.requires.2 _ _ _ c.same-same.ensures c.believe.ensures.0 c.same.ensures, c.believe.ensures.0, c.believe.ensures.1)
