@@ -7,9 +7,7 @@ use native.Mathlib.Omega.{arith}
 use Rattle.history.specs.declared.scan.Scan.{Scan}
 use Rattle.history.specs.Scan.{change_of}
 use Rattle.history.specs.Read.{bytes_of}
-use borrow.Author.Rules.{rules}
-use Rattle.history.proofs.scan.Scan.bytes.Statement.{statement}
-use Rattle.history.proofs.scan.Scan.bytes.Tie as tie
+use Rattle.history.proofs.scan.Scan.bytes.Goals as goal
 
 laid : (q : Scan) (w : ℕ) → q.high < 65536 → q.low < 65536 → w < 65536
     → q.low % 256 ∷ q.low / 256 ∷ q.high % 256 ∷ q.high / 256 ∷ w % 256 ∷ w % 4096 / 256 ∷ w / 4096 ∷ [] ≡ bytes_of (change_of q w)
@@ -25,31 +23,7 @@ laid q w h l b =
     let c0 : w / 4096 % 256 ≡ w / 4096 = omega arith in
     rw (high, b0, b1, top, b3, n0, n1, c0)
 
-cast-t4 : tie.Need-overflow-cast-t4
-cast-t4 c = search rules
-
-cast-t6 : tie.Need-overflow-cast-t6
-cast-t6 c = search rules
-
-cast-t8 : tie.Need-overflow-cast-t8
-cast-t8 c = search rules
-
-cast-t10 : tie.Need-overflow-cast-t10
-cast-t10 c = search rules
-
-cast-t12 : tie.Need-overflow-cast-t12
-cast-t12 c = search rules
-
-cast-t15 : tie.Need-overflow-cast-t15
-cast-t15 c = search rules
-
-cast-t17 : tie.Need-overflow-cast-t17
-cast-t17 c = search rules
-
-returns : tie.Need-returns
+pub returns : goal.returns
 returns c =
-    let a = c.before.before.before.before.args in
+    let a = c.args in
     laid a.self a.word (omega arith) (omega arith) (omega arith)
-
-pub bytes_spec : {M : Type 1} → statement M
-bytes_spec = tie.close (tie.spec cast-t4 cast-t6 cast-t8 cast-t10 cast-t12 cast-t15 cast-t17 returns)
