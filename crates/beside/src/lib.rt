@@ -16,7 +16,7 @@ use history::Store;
 pub const LAST_INPUT: usize = 40;
 
 // What a block gives back.
-#[derive(Drop)]
+#[derive(Clone, Copy)]
 pub struct Beside {
     pub answer: Answer,
     pub board: Board,
