@@ -37,12 +37,12 @@ use Rattle.board.proofs.Settled.{sound_parts_lem}
 use Rattle.board.proofs.Keeps.{Fit}
 use Rattle.eight.proofs.Sound.{ptc_at}
 use Rattle.report.specs.Report.{common_values, controller_text, blocks_from, report_text, report_answer, reported}
-use Rattle.logbook.specs.Row.{row_at, taken_in}
-use Rattle.logbook.specs.Whole.{Taken, Crossing, whole}
-use Rattle.logbook.proofs.Decoding.{row_taken}
-use Rattle.logbook.proofs.Ground.{ground, fit_at, row_at_lem}
-use Rattle.logbook.proofs.Beams.{own_settings}
-use Rattle.logbook.proofs.Seen.{scene_in, ptc_in, class_in, crossed_in, code_told, sent_told, cal_told, runs_told, warns_told, next_told}
+use Rattle.daybook.specs.Row.{row_at, taken_in}
+use Rattle.daybook.specs.Whole.{Taken, Crossing, whole}
+use Rattle.daybook.proofs.Decoding.{row_taken}
+use Rattle.daybook.proofs.Ground.{ground, fit_at, row_at_lem}
+use Rattle.daybook.proofs.Beams.{own_settings}
+use Rattle.daybook.proofs.Seen.{scene_in, ptc_in, class_in, crossed_in, code_told, sent_told, cal_told, runs_told, warns_told, next_told}
 use Rattle.slots.proofs.Slots.{number_seen, holder_seen}
 use Rattle.windows.proofs.Windows.{rule_told}
 use Rattle.balance.specs.Reading.{Reading, look_at, past_crossing, past_command, counted, reading_of}

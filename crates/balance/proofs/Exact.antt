@@ -19,8 +19,8 @@ use Rattle.ptc.specs.Cycle.{OPEN, asks_of}
 use Rattle.ptc.specs.Crossing.{rule_in, crossed_of}
 use Rattle.records.specs.Records.{rec_at, asked_in}
 use Rattle.kit.specs.Kit.{plan_of}
-use Rattle.logbook.specs.Whole.{Taken, Crossing, whole}
-use Rattle.logbook.proofs.Seen.{scene_in, ptc_in, class_in}
+use Rattle.daybook.specs.Whole.{Taken, Crossing, whole}
+use Rattle.daybook.proofs.Seen.{scene_in, ptc_in, class_in}
 use Rattle.balance.specs.Reading.{reading_of}
 use Rattle.balance.specs.Exact.{due, cal_due, busy_in, Exactly}
 use Rattle.balance.proofs.Showing.{cycle}

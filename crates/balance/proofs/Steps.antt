@@ -26,7 +26,7 @@ use Rattle.ptc.specs.Cycle.{NONE, OPEN, kept_of, opened_of, asks_of}
 use Rattle.ptc.specs.Crossing.{rule_in, free_in, crossed_of}
 use Rattle.ptc.specs.Command.{armed_ptc, led_ptc, commanded_of}
 use Rattle.kit.specs.Kit.{plan_of}
-use Rattle.logbook.specs.Row.{taken_in}
+use Rattle.daybook.specs.Row.{taken_in}
 use Rattle.balance.specs.Reading.{Reading, Look, opens, cause, cal_counted, counted, past_crossing, past_command}
 use Rattle.balance.proofs.Showing.{moved, cycle, code_opens, code_restarts}
 

@@ -19,7 +19,7 @@ use Rattle.throttle.proofs.Refuser.{refuser_most, refuser_before, refuser_fails}
 use Rattle.counts.specs.declared.Lost.{Lost}
 use Rattle.counts.specs.Counts.{STATE, SLOT, GAP, CAL, in_gap, ruled, ruled_to, lost_to as lost_under}
 use Rattle.counts.proofs.Balance.{ruled_names}
-use Rattle.logbook.specs.Row.{row_at, warns_in}
+use Rattle.daybook.specs.Row.{row_at, warns_in}
 use Rattle.windows.specs.Windows.{crossing_rows, triggers}
 use Rattle.balance.specs.Reading.{Look, look_at, cause, counted, past_crossing, reading_of}
 use Rattle.balance.specs.Exact.{busy_in}

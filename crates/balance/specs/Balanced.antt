@@ -14,7 +14,7 @@ use Rattle.records.specs.Refusal.{records_in}
 use Rattle.board.specs.declared.Board.{Board}
 use Rattle.ptc.specs.Fresh.{fresh_ptc}
 use Rattle.report.specs.Report.{common_values, blocks_from, reported}
-use Rattle.logbook.specs.Whole.{Taken, Crossing, whole}
+use Rattle.daybook.specs.Whole.{Taken, Crossing, whole}
 use Rattle.balance.specs.Reading.{Reading, look_at, reading_of}
 
 -- lost to the state, the slot, the gap, a calibration, or one of the four rules

@@ -4,7 +4,7 @@ use Rattle.std.specs.Prelude.{ℕ, ◌<◌, ◌≡◌, Bool, not, ◌&&◌, List
 use Rattle.settings.specs.declared.Settings.{Settings}
 use Rattle.settings.specs.Names.{gap_of}
 use Rattle.counts.specs.Counts.{in_gap}
-use Rattle.logbook.specs.Whole.{Taken, Crossing, whole}
+use Rattle.daybook.specs.Whole.{Taken, Crossing, whole}
 use Rattle.balance.specs.Reading.{Look, clear, look_at, opens, asks_for, reading_of}
 
 -- a request is due where it is asked, the status is ready or warning, the slot its own, the number outside the gap, no cycle open, and

@@ -10,7 +10,7 @@ use Rattle.counts.specs.declared.Counts.{Counts}
 use Rattle.counts.specs.declared.Calibrations.{Calibrations}
 use Rattle.counts.specs.Counts.{STATE, SLOT, GAP, CAL, in_gap, ruled, lost_to, no_counts}
 use Rattle.records.specs.Records.{rec_at, is_crossing, asked_in}
-use Rattle.logbook.specs.Row.{row_at, code_in, sent_in, cal_in, runs_in, warns_in, taken_in}
+use Rattle.daybook.specs.Row.{row_at, code_in, sent_in, cal_in, runs_in, warns_in, taken_in}
 use Rattle.slots.specs.Orbits.{number_by, holder_by}
 use Rattle.windows.specs.Windows.{crossing_rows, triggers}
 

@@ -8,8 +8,8 @@ use Rattle.throttle.specs.Rules.{limit_of}
 use Rattle.throttle.specs.Windows.{count_of}
 use Rattle.counts.specs.declared.ByRule.{ByRule}
 use Rattle.counts.specs.Counts.{CAL}
-use Rattle.logbook.specs.Row.{row_at, warns_in}
-use Rattle.logbook.specs.Whole.{Crossing}
+use Rattle.daybook.specs.Row.{row_at, warns_in}
+use Rattle.daybook.specs.Whole.{Crossing}
 use Rattle.windows.specs.Windows.{crossing_rows, triggers, rule_at}
 use Rattle.balance.specs.Reading.{look_at, cause, reading_of}
 use Rattle.balance.specs.Exact.{busy_in}

@@ -23,7 +23,7 @@ use Rattle.board.specs.declared.Board.{Board}
 use Rattle.board.specs.Crossing.{eight, held_in, crossed_by, crossing_row_by}
 use Rattle.board.specs.Command.{commanded_by}
 use Rattle.board.specs.Run.{stepped, row_of}
-use Rattle.logbook.proofs.Decoding.{row_byte_lem}
+use Rattle.daybook.proofs.Decoding.{row_byte_lem}
 use Rattle.beside.specs.Changes.{change_in}
 use Rattle.beside.specs.Support.Through.{Tracks}
 

@@ -36,8 +36,8 @@ use Rattle.board.specs.Run.{row_of, ran, rows_of}
 use Rattle.board.proofs.Settled.{sound_parts_lem}
 use Rattle.board.proofs.Crossings.{clock_room}
 use Rattle.board.proofs.Keeps.{Fit, ran_fit, ran_settings}
-use Rattle.logbook.specs.Row.{row_at}
-use Rattle.logbook.proofs.Ground.{row_is}
+use Rattle.daybook.specs.Row.{row_at}
+use Rattle.daybook.proofs.Ground.{row_is}
 use Rattle.beside.specs.Changes.{change_in, changes_over}
 use Rattle.beside.specs.Support.Through.{Through, Tracks}
 use Rattle.beside.proofs.Tracking.{change_is, crossing_tracks, command_tracks}

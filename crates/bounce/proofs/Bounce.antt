@@ -23,8 +23,8 @@ use Rattle.board.specs.Crossing.{turn_by, scene_by, board_crossed, crossed_by, r
 use Rattle.board.specs.Command.{command_by, board_commanded, commanded_by, row_commanded, command_row_by}
 use Rattle.board.specs.Run.{stepped, row_of, ran, rows_of}
 use Rattle.board.specs.Fresh.{fresh_board}
-use Rattle.logbook.specs.Whole.{Taken, Crossing, whole}
-use Rattle.logbook.proofs.Ground.{ground}
+use Rattle.daybook.specs.Whole.{Taken, Crossing, whole}
+use Rattle.daybook.proofs.Ground.{ground}
 use Rattle.bounce.specs.Input.{code_now, code_before, believed_before}
 use Rattle.bounce.specs.Bounce.{OnlyIn, NothingNew, Alike, BouncesApart, carrying, SameButCarried, Bounce, NeverTwice}
 use Rattle.bounce.proofs.Holds.{told_at}

@@ -25,8 +25,8 @@ use Rattle.board.specs.Command.{commanded_by}
 use Rattle.board.specs.Run.{stepped, ran}
 use Rattle.board.specs.Fresh.{fresh_board}
 use Rattle.board.proofs.Settled.{sound_parts_lem}
-use Rattle.logbook.specs.Whole.{Taken}
-use Rattle.logbook.proofs.Ground.{ground, fit_at, well_here}
+use Rattle.daybook.specs.Whole.{Taken}
+use Rattle.daybook.proofs.Ground.{ground, fit_at, well_here}
 use Rattle.bounce.specs.Input.{code_before, believed_before, Holding}
 
 -- held codes that are those told before record i

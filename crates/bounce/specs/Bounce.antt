@@ -7,7 +7,7 @@ use Rattle.records.specs.Records.{rec_at}
 use Rattle.records.specs.Refusal.{records_in}
 use Rattle.board.specs.declared.Board.{Board}
 use Rattle.board.specs.Block.{RanOut}
-use Rattle.logbook.specs.Whole.{Taken, Crossing, whole}
+use Rattle.daybook.specs.Whole.{Taken, Crossing, whole}
 use Rattle.bounce.specs.Input.{code_now, code_before, believed_before}
 
 -- two logs that differ in the codes of input x, and in nothing else

@@ -7,7 +7,7 @@ use Rattle.steady.specs.declared.Held.{Held}
 use Rattle.steady.specs.Steady.{steady}
 use Rattle.records.specs.Records.{rec_at, is_crossing, codes_in}
 use Rattle.records.specs.Refusal.{records_in}
-use Rattle.logbook.specs.Whole.{Taken, whole}
+use Rattle.daybook.specs.Whole.{Taken, whole}
 
 -- in the crossing that record i is
 abbrev pub code_now : (log : List ℕ) (x i : ℕ) → ℕ

@@ -16,9 +16,9 @@ use Rattle.settings.specs.declared.Settings.{Settings}
 use Rattle.ptc.proofs.Triggers.{SentIs, CalIs, sent_is, cal_is, never_both}
 use Rattle.records.specs.Records.{rec_at, asked_in}
 use Rattle.kit.specs.Kit.{slots_of, plan_of}
-use Rattle.logbook.specs.Row.{row_at, sent_in, cal_in, sends_in, triggers_of}
-use Rattle.logbook.specs.Whole.{Taken, Crossing, whole}
-use Rattle.logbook.proofs.Seen.{scene_in, ptc_in, class_in, sent_told, cal_told, runs_told}
+use Rattle.daybook.specs.Row.{row_at, sent_in, cal_in, sends_in, triggers_of}
+use Rattle.daybook.specs.Whole.{Taken, Crossing, whole}
+use Rattle.daybook.proofs.Seen.{scene_in, ptc_in, class_in, sent_told, cal_told, runs_told}
 use Rattle.slots.specs.Orbits.{orbit_ends_in, holder_by}
 use Rattle.slots.specs.Rounds.{OwnOrbit}
 use Rattle.slots.proofs.Slots.{number_seen, holder_seen}

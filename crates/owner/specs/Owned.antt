@@ -5,8 +5,8 @@ use Rattle.settings.specs.Names.{gap_of}
 use Rattle.counts.specs.Counts.{in_gap}
 use Rattle.records.specs.Records.{rec_at, asked_in}
 use Rattle.kit.specs.Kit.{slots_of}
-use Rattle.logbook.specs.Row.{row_at, sent_in, cal_in, sends_in, triggers_in, runs_in}
-use Rattle.logbook.specs.Whole.{Taken, Crossing, whole}
+use Rattle.daybook.specs.Row.{row_at, sent_in, cal_in, sends_in, triggers_in, runs_in}
+use Rattle.daybook.specs.Whole.{Taken, Crossing, whole}
 use Rattle.slots.specs.Orbits.{number_by, orbit_ends_in, holder_by}
 use Rattle.slots.specs.Rounds.{OwnOrbit}
 

@@ -16,8 +16,8 @@ use Rattle.board.specs.Block.{block_of}
 use Rattle.board.specs.Run.{ran, rows_of}
 use Rattle.board.proofs.Answers.{block_ready, block_answer, block_done}
 use Rattle.board.proofs.Keeps.{fresh_fit, fresh_sound}
-use Rattle.logbook.specs.Whole.{Taken, whole}
-use Rattle.logbook.proofs.Ground.{ground}
+use Rattle.daybook.specs.Whole.{Taken, whole}
+use Rattle.daybook.proofs.Ground.{ground}
 use Rattle.cut.specs.Blocks.{Lent, AllFit, uncut, Outcome, at_once}
 use Rattle.cut.proofs.Cut.{cut}
 use Rattle.cut.proofs.Accepted.{accepts, rows_taken}

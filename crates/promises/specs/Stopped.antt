@@ -5,7 +5,7 @@ use Rattle.text.specs.Lines.{all, read_lines}
 use Rattle.keys.specs.Settings.{table_of}
 use Rattle.editions.specs.Read.{edition_of, warn_blocks, read_text}
 use Rattle.records.specs.Refusal.{records_in}
-use Rattle.logbook.specs.Whole.{Taken, whole}
+use Rattle.daybook.specs.Whole.{Taken, whole}
 use Rattle.windows.specs.Windows.{crossing_rows, sent_warned}
 
 -- ns are the numbers that stand on the text's lines; the crossing is the one with `from` others after it

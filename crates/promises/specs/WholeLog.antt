@@ -8,7 +8,7 @@ use Rattle.records.specs.Refusal.{records_in}
 use Rattle.board.specs.declared.Board.{Board}
 use Rattle.board.specs.Fresh.{fresh_board}
 use Rattle.board.specs.Block.{block_of}
-use Rattle.logbook.specs.Whole.{Crossing}
+use Rattle.daybook.specs.Whole.{Crossing}
 use Rattle.cut.specs.Blocks.{Lent, AllFit, uncut, Outcome, in_turn, at_once}
 use Rattle.owner.specs.Owned.{Owned}
 use Rattle.windows.specs.Windows.{Throttled, rule_at, crossing_rows}

@@ -17,7 +17,7 @@ use Rattle.history.specs.Read.{changes_in}
 use Rattle.history.specs.Recall.{LastOf}
 use Rattle.history.proofs.Recall.{recalling}
 use Rattle.board.specs.Fresh.{fresh_board}
-use Rattle.logbook.proofs.Ground.{ground}
+use Rattle.daybook.proofs.Ground.{ground}
 use Rattle.beside.specs.Changes.{changes_over}
 use Rattle.beside.specs.Beside.{followed, beside_of}
 use Rattle.recall.specs.Recall.{StoreChangesNothing, Recall}

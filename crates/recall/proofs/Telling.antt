@@ -26,12 +26,12 @@ use Rattle.board.specs.Crossing.{eight, held_in, crossed_by, crossing_row_by}
 use Rattle.board.specs.Command.{commanded_by}
 use Rattle.board.specs.Run.{stepped, row_of, ran}
 use Rattle.board.specs.Fresh.{fresh_board}
-use Rattle.logbook.specs.Row.{row_at}
-use Rattle.logbook.specs.Whole.{Taken, whole}
-use Rattle.logbook.specs.Beam.{number_in}
-use Rattle.logbook.proofs.Decoding.{row_byte_lem}
-use Rattle.logbook.proofs.Ground.{fit_at, row_at_lem}
-use Rattle.logbook.proofs.Beams.{along}
+use Rattle.daybook.specs.Row.{row_at}
+use Rattle.daybook.specs.Whole.{Taken, whole}
+use Rattle.daybook.specs.Beam.{number_in}
+use Rattle.daybook.proofs.Decoding.{row_byte_lem}
+use Rattle.daybook.proofs.Ground.{fit_at, row_at_lem}
+use Rattle.daybook.proofs.Beams.{along}
 use Rattle.bounce.specs.Input.{believed_before}
 use Rattle.bounce.proofs.Holds.{told_at}
 use Rattle.beside.specs.Changes.{change_in, changes_over}

@@ -12,7 +12,7 @@ use Rattle.board.specs.declared.Board.{Board}
 use Rattle.board.specs.Block.{block_of}
 use Rattle.board.specs.Fresh.{fresh_board}
 use Rattle.cut.specs.Blocks.{Lent, AllFit, uncut, Whole, Outcome, in_turn}
-use Rattle.logbook.specs.Whole.{Taken, whole}
+use Rattle.daybook.specs.Whole.{Taken, whole}
 use Rattle.beside.specs.Beside.{followed, beside_answer, beside_of}
 use Rattle.recall.specs.Told.{changes_told, OfBytes}
 

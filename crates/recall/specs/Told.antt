@@ -8,8 +8,8 @@ use Rattle.records.specs.Records.{rec_at, is_crossing, marker_in}
 use Rattle.records.specs.Rows.{clears_orbit}
 use Rattle.history.specs.declared.keep.Change.{Change}
 use Rattle.follower.specs.Change.{change_for}
-use Rattle.logbook.specs.Row.{row_at}
-use Rattle.logbook.specs.Beam.{beam_at, number_in}
+use Rattle.daybook.specs.Row.{row_at}
+use Rattle.daybook.specs.Beam.{beam_at, number_in}
 use Rattle.bounce.specs.Input.{believed_before}
 
 -- what step 1 adds to the orbit count in the crossing that record i is

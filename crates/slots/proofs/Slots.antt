@@ -17,10 +17,10 @@ use Rattle.settings.proofs.Bounds.{bounded}
 use Rattle.clock.specs.Clock.{orbit_ends, next_of, ticked_of}
 use Rattle.records.specs.Records.{rec_at, is_crossing, marker_in, crossings_in}
 use Rattle.kit.specs.Kit.{slots_of}
-use Rattle.logbook.specs.Beam.{handed_over, beam_past, beam_at, number_in, holder_in}
-use Rattle.logbook.specs.Whole.{Taken, Crossing}
-use Rattle.logbook.proofs.Beams.{number_told, holder_told}
-use Rattle.logbook.proofs.Seen.{scene_in}
+use Rattle.daybook.specs.Beam.{handed_over, beam_past, beam_at, number_in, holder_in}
+use Rattle.daybook.specs.Whole.{Taken, Crossing}
+use Rattle.daybook.proofs.Beams.{number_told, holder_told}
+use Rattle.daybook.proofs.Seen.{scene_in}
 use Rattle.slots.specs.Orbits.{since_marker, number_by, ends_orbit, orbits_ended, orbit_ends_in, holder_by}
 use Rattle.slots.specs.Slots.{Counted, Slots}
 use Rattle.slots.proofs.Round.{place_next, place_last}

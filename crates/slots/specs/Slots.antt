@@ -3,7 +3,7 @@ use Rattle.std.specs.Prelude.{ℕ, ◌<◌, ◌≡◌, true, List}
 use Rattle.settings.specs.declared.Settings.{Settings}
 use Rattle.settings.specs.Names.{orbit_of}
 use Rattle.records.specs.Records.{rec_at, is_crossing}
-use Rattle.logbook.specs.Beam.{number_in, holder_in}
+use Rattle.daybook.specs.Beam.{number_in, holder_in}
 use Rattle.slots.specs.Orbits.{number_by, holder_by}
 
 pub record Counted (s : Settings) (log : List ℕ) (i : ℕ) : Type 0 where

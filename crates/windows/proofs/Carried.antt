@@ -26,11 +26,11 @@ use Rattle.board.specs.Crossing.{scene_by, eight}
 use Rattle.eight.specs.Eight.{byte_of}
 use Rattle.board.specs.Run.{ran}
 use Rattle.board.specs.Fresh.{fresh_board}
-use Rattle.logbook.specs.Row.{row_at, sent_in, cal_in, sends_in, triggers_of, triggers_in, warns_in}
-use Rattle.logbook.specs.Whole.{Taken, Crossing, whole}
-use Rattle.logbook.proofs.Ground.{fit_at}
-use Rattle.logbook.proofs.Beams.{own_settings}
-use Rattle.logbook.proofs.Seen.{scene_in, crossed_in, warns_told, fires_told}
+use Rattle.daybook.specs.Row.{row_at, sent_in, cal_in, sends_in, triggers_of, triggers_in, warns_in}
+use Rattle.daybook.specs.Whole.{Taken, Crossing, whole}
+use Rattle.daybook.proofs.Ground.{fit_at}
+use Rattle.daybook.proofs.Beams.{own_settings}
+use Rattle.daybook.proofs.Seen.{scene_in, crossed_in, warns_told, fires_told}
 use Rattle.owner.proofs.Owner.{silent_sum, sent_says, cal_says, one_at_most}
 use Rattle.windows.specs.Windows.{rule_at}
 

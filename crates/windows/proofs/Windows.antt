@@ -33,10 +33,10 @@ use Rattle.board.specs.Command.{commanded_by}
 use Rattle.board.specs.Run.{stepped, ran}
 use Rattle.board.specs.Fresh.{fresh_board}
 use Rattle.board.proofs.Keeps.{crossed_count}
-use Rattle.logbook.specs.Row.{row_at, sends_in, triggers_in, warns_in}
-use Rattle.logbook.specs.Whole.{Taken, Crossing, whole}
-use Rattle.logbook.proofs.Ground.{fit_at}
-use Rattle.logbook.proofs.Seen.{scene_in}
+use Rattle.daybook.specs.Row.{row_at, sends_in, triggers_in, warns_in}
+use Rattle.daybook.specs.Whole.{Taken, Crossing, whole}
+use Rattle.daybook.proofs.Ground.{fit_at}
+use Rattle.daybook.proofs.Seen.{scene_in}
 use Rattle.windows.specs.Windows.{crossing_rows, triggers, in_stretch, rule_at, sent_warned, Windows}
 use Rattle.windows.proofs.Carried.{some_sent, carried, bit, sent_one, who_sent, rule_seen, allowed}
 

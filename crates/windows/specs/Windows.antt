@@ -8,8 +8,8 @@ use Rattle.throttle.specs.Rules.{rules_list, spacing_rule}
 use Rattle.throttle.specs.Windows.{count_of}
 use Rattle.records.specs.Records.{rec_at, is_crossing}
 use Rattle.records.specs.Refusal.{records_in}
-use Rattle.logbook.specs.Row.{row_at, sends_in, triggers_in, warns_in}
-use Rattle.logbook.specs.Whole.{Taken, whole}
+use Rattle.daybook.specs.Row.{row_at, sends_in, triggers_in, warns_in}
+use Rattle.daybook.specs.Whole.{Taken, whole}
 
 -- the rows of the crossings among the first n records, the newest first
 unfoldable pub crossing_rows : List ℕ → List ℕ → ℕ → List (List ℕ)

@@ -29,11 +29,11 @@ use Rattle.eight.specs.Eight.{act_of, byte_of, shown_of}
 use Rattle.ptc.specs.Fresh.{fresh_ptc}
 use Rattle.board.specs.Run.{stepped, row_of, ran}
 use Rattle.board.specs.Fresh.{fresh_board}
-use Rattle.logbook.specs.Row.{row_at, code_in, sent_in, cal_in, sends_in, status_in, runs_in, warns_in}
-use Rattle.logbook.specs.Whole.{Taken, Crossing, whole}
-use Rattle.logbook.proofs.Decoding.{byte_sent, byte_cal, row_byte_lem, row_status}
-use Rattle.logbook.proofs.Ground.{fit_at, row_at_lem}
-use Rattle.logbook.proofs.Beams.{own_settings}
+use Rattle.daybook.specs.Row.{row_at, code_in, sent_in, cal_in, sends_in, status_in, runs_in, warns_in}
+use Rattle.daybook.specs.Whole.{Taken, Crossing, whole}
+use Rattle.daybook.proofs.Decoding.{byte_sent, byte_cal, row_byte_lem, row_status}
+use Rattle.daybook.proofs.Ground.{fit_at, row_at_lem}
+use Rattle.daybook.proofs.Beams.{own_settings}
 
 -- ---- one crossing of any board
 

@@ -10,7 +10,7 @@ use lib.Dec.{eqb}
 use lib.ListN.{length, get_or, get_or-append}
 use Rattle.records.specs.Rows.{row_byte, packed, crossing_row, command_row}
 use Rattle.records.proofs.Laws.{row_made}
-use Rattle.logbook.specs.Row.{status_in, taken_in}
+use Rattle.daybook.specs.Row.{status_in, taken_in}
 
 -- bits 4 and 5 of a byte
 pub byte_sent : (c : ℕ) (s t : Bool) → c < 16 → eqb (row_byte c s t / 16 % 2) 1 ≡ s

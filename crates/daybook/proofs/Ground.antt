@@ -18,8 +18,8 @@ use Rattle.board.specs.Fresh.{fresh_board}
 use Rattle.board.proofs.Answers.{block_ready, block_answer, block_done}
 use Rattle.board.proofs.Cut.{cut_rows}
 use Rattle.board.proofs.Keeps.{Fit, fresh_fit, ran_fit, ran_ptcs_long, row_of_long, rows_long}
-use Rattle.logbook.specs.Row.{row_at}
-use Rattle.logbook.specs.Whole.{Taken, whole}
+use Rattle.daybook.specs.Row.{row_at}
+use Rattle.daybook.specs.Whole.{Taken, whole}
 
 -- ---- rows
 

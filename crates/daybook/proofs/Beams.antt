@@ -17,7 +17,7 @@ use Rattle.board.specs.Command.{board_commanded, commanded_by}
 use Rattle.board.specs.Run.{stepped, ran}
 use Rattle.board.specs.Fresh.{fresh_board}
 use Rattle.board.proofs.Keeps.{ran_settings}
-use Rattle.logbook.specs.Beam.{Beam, handed_over, beam_past, beam_at, number_in, holder_in}
+use Rattle.daybook.specs.Beam.{Beam, handed_over, beam_past, beam_at, number_in, holder_in}
 
 pub record Along (a : Beam) (b : Board) : Type 0 where
   pub crossings : a.clock.crossings ≡ b.clock.crossings
