@@ -1,6 +1,6 @@
 -- Two logs that differ only in what one input bounces through give the same rows, and the same board but for the code it carried last.
 -- By induction on the records each input is believed to carry the same in both; all else in a board goes by the believed codes.
-use mathlib.Core.Path.{◌≡◌, refl, sym, ap, ap₂, ◌∙◌}
+use mathlib.Core.Path.{◌≡◌, refl, sym, ap, ap₂, ◌∙◌, subst}
 use mathlib.Core.Logic.{⊎_elim, inr}
 use mathlib.Core.Bool.{true, false}
 use mathlib.Core.List.{List, ◌++◌}
@@ -76,7 +76,11 @@ module _ (x : ℕ) (a b : List ℕ) (only : OnlyIn x a b) where
         let c : Crossing a i = record { among = h; kind = e } in
         rw (← kinds i h, e)
         (⊎_elim
-        (λ (z : y ≡ x). let own : believed_before a x i ≡ believed_before b x i = rw z at before in rw z (own_same i c own))
+        (λ (z : y ≡ x).
+        subst
+        (λ (t : ℕ). steady (code_before a t i) (believed_before a t i) (code_now a t i) ≡ steady (code_before b t i) (believed_before b t i) (code_now b t i))
+        (sym z)
+        (own_same i c (subst (λ (t : ℕ). believed_before a t i ≡ believed_before b t i) z before)))
         (λ (z : y ≡ x → ⊥). other_same i y c low z before)
         (same_or_not y x)))
         (λ (e : is_crossing (rec_at a i) ≡ false). rw (← kinds i h, e) before)
