@@ -1,7 +1,6 @@
 -- Bytes: those of a quoted text, a list of them laid into another from a place, and whether a list begins with another.
 use Rattle.std.specs.Prelude.{ℕ, ◌+◌, Bool, true, false, ◌&&◌, List, [], ◌∷◌, ◌++◌, eqb, length, take, drop}
 use Prim.Native.String.{String}
-use Prim.Native.String
 use Prim.Native.Char.{code}
 
 -- the bytes of a text of plain characters

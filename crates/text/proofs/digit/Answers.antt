@@ -1,0 +1,13 @@
+-- `text::digit` meets its contract: each way rewrites with the tests that led there.
+-- Below `0`, above `9`, or a digit.
+use borrow.Author.Tests.{le-leb, lt-leb}
+use Rattle.text.proofs.digit.Goals as goal
+
+pub returns-then-b-lt48 : goal.returns-then-b-lt48
+returns-then-b-lt48 c = rw (lt-leb _ _ c.if-b-lt48.true)
+
+pub returns-then-b-gt57 : goal.returns-then-b-gt57
+returns-then-b-gt57 c = rw (le-leb _ _ c.if-b-lt48.false, lt-leb _ _ c.if-b-gt57.true)
+
+pub returns : goal.returns
+returns c = rw (le-leb _ _ c.if-b-lt48.false, le-leb _ _ c.if-b-gt57.false)
