@@ -4,13 +4,12 @@ use mathlib.Core.Path.{◌≡◌}
 use mathlib.Core.Logic.{⊎_elim}
 use mathlib.Core.Bool.{true, false, ◌&&◌}
 use Prim.Native.Nat.{ℕ}
-use borrow.Author.Tests.{eqb-true}
+use borrow.Author.Tests.{eq-eqb, ne_eqb, eqb-true}
 use lib.Dec.{eqb}
 use Rattle.laws.proofs.Tests.{either}
 use Rattle.settings.specs.declared.names.Ignores.{Ignores}
 use Rattle.status.specs.Class.{bad, disconnected, counted}
-use Rattle.status.proofs.counts.Statement.{statement}
-use Rattle.status.proofs.counts.Tie as tie
+use Rattle.status.proofs.counts.Goals as goal
 
 module _ (g : Ignores) (k : ℕ) where
   as_disconnected : g.disc ≡ true → eqb k disconnected ≡ true → 0 ≡ counted g k
@@ -25,18 +24,15 @@ module _ (g : Ignores) (k : ℕ) where
   unfolding counted
   as_itself p q = rw (p, q)
 
-returns : tie.Need-returns
-returns c = as_disconnected _ _ c.before.if1.true c.if2.true
+pub returns-then-class-eq-RANK_DISCONNECTED : goal.returns-then-class-eq-RANK_DISCONNECTED
+returns-then-class-eq-RANK_DISCONNECTED c = as_disconnected _ _ c.if-ignores.true (eq-eqb _ _ c.if-class-eq-RANK_DISCONNECTED.true)
 
-returns-2 : tie.Need-returns-2
-returns-2 c = as_bad _ _ c.before.if3.true c.if4.true
+pub returns-then-class-eq-RANK_BAD : goal.returns-then-class-eq-RANK_BAD
+returns-then-class-eq-RANK_BAD c = as_bad _ _ c.if-ignores-2.true (eq-eqb _ _ c.if-class-eq-RANK_BAD.true)
 
-returns-3 : tie.Need-returns-3
-returns-3 c =
-    let a = c.before.before.args in
+pub returns : goal.returns
+returns c =
+    let a = c.args in
     as_itself a.ignores a.class
-    (⊎_elim (λ w. rw (w.0.taken, w.1.left)) (λ w. rw w.left) c.before.if1.branch)
-    (⊎_elim (λ w. rw (w.0.taken, w.1.left)) (λ w. rw w.left) c.if3.branch)
-
-pub counts_spec : {M : Type 1} → statement M
-counts_spec = tie.close (tie.spec returns returns-2 returns-3)
+    (⊎_elim (λ w. rw (w.0, ne_eqb _ _ w.1)) (λ w. rw w) c.else-ignores.either)
+    (⊎_elim (λ w. rw (w.0, ne_eqb _ _ w.1)) (λ w. rw w) c.else-ignores-2.either)
