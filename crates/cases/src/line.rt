@@ -13,8 +13,8 @@ pub struct Words {
     pub d: u64,
 }
 
-#[tactic(auto, unfolding(crate::specs::Words::digit_more))]
 // One digit more, of at most 18, where it is asked for; what is no digit changes nothing.
+#[tactic(auto, unfolding(crate::specs::Words::digit_more))]
 fn longer(value: u64, b: u8, asked: bool) -> u64
     ensures { result ≡ if asked (digit_more value b) value }
 {

@@ -5,7 +5,9 @@ ghost use Rattle.std.specs.Prelude.{◌<◌, length, take, is_some, IsNone};
 ghost use Rattle.std.specs.Io.KnownBytes.{Consumes, IsAtEnd};
 ghost use Rattle.files.specs.Read.{ReadFrom, left};
 
+use std::fs;
 use std::io::{Error, Read};
+use std::rt::Files;
 
 // How many bytes were read, and the error of a read that failed after them. A read that a signal interrupts before it moves a byte has
 // failed.
@@ -13,6 +15,11 @@ use std::io::{Error, Read};
 pub struct Got {
     pub count: usize,
     pub failed: Option<Error>,
+}
+
+// A file of the folder that the program runs in, where it can be opened.
+pub fn open<F: Files>(rt: &F, name: &str) -> Option<F::File> {
+    fs::open(rt, name).ok()
 }
 
 // Reads until the piece is full or the file ends. A file that could not be opened, `None`, reads as empty.
