@@ -13,7 +13,7 @@ use std::io::{Error, Write};
 use std::process::ExitCode;
 
 // What was read of the file, and the error where reading it failed.
-#[derive(Clone, Copy)]
+#[derive(Drop)]
 struct Opened {
     failed: Option<Error>,
     read: Read,
