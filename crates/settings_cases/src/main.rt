@@ -34,26 +34,23 @@ fn plain(b: u8) -> u8 {
 fn decoded(part: &[u8], out: &mut [u8]) -> usize
     ensures { result ≤ length out.new }
 {
-    let mut i = 0;
-    while i < part.len() && i < out.len() {
+    let n = part.len().min(out.len());
+    for i in 0..n {
         out[i] = plain(part[i]);
-        i += 1;
     }
-    i
+    n
 }
 
 // Where the part first stands in the text, or the text's end.
 fn find(text: &[u8], part: &[u8]) -> usize
     ensures { result ≤ length text.now }
 {
-    let mut at = 0;
-    while at < text.len() {
+    for at in 0..text.len() {
         if text::starts_with(text, at, part) {
             return at;
         }
-        at += 1;
     }
-    at
+    text.len()
 }
 
 // Lays bytes into the buffer from a place on, where there is room, and answers the place after them.
@@ -156,15 +153,7 @@ fn read_named<W: Write>(
 
 // How many bytes are other than 7, which no settings text has.
 fn changed(out: &[u8]) -> u64 {
-    let mut n: u64 = 0;
-    let mut i = 0;
-    while i < out.len() {
-        if out[i] != 7 {
-            n += 1;
-        }
-        i += 1;
-    }
-    n
+    out.iter().filter(|b| **b != 7).count() as u64
 }
 
 // The standard settings with another value on a line.
