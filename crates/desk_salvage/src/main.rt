@@ -18,6 +18,9 @@ const PIECE: usize = 6144;
 
 const RECORDS: u64 = 256;
 
+// The pieces whose records have numbers.
+const PIECES: u64 = 1 << 56;
+
 const LIST: usize = 319488;
 
 // The names under which the files are written.
@@ -73,13 +76,13 @@ fn salvage_piece(first: u64, piece: &[u8], salvaged: &mut [u8], changes: &mut [u
     salvage(first, piece, salvaged, changes)
 }
 
-// Salvages the log into the parts. No file has as many pieces as the loop has turns.
+// Salvages the log into the parts. A full piece more than the loop has turns would be refused: its records have no numbers.
 fn go_through<R: Read, F: Write>(log: &mut Option<R>, parts: &mut Parts<F>) -> Result<(), Stop> {
     let mut piece = [0u8; PIECE];
     let mut salvaged = [0u8; PIECE];
     let mut changes = [0u8; LIST];
-    let mut first: u64 = 0;
-    for _ in 0..u64::MAX / RECORDS {
+    for k in 0..PIECES {
+        let first = RECORDS * k;
         let got = read_piece(log, &mut piece);
         let n = got.count;
         if let Some(error) = got.failed {
@@ -94,7 +97,6 @@ fn go_through<R: Read, F: Write>(log: &mut Option<R>, parts: &mut Parts<F>) -> R
         if n < PIECE {
             return Ok(());
         }
-        first += RECORDS;
     }
     Err(Stop::Numbers)
 }

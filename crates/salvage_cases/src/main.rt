@@ -57,11 +57,9 @@ impl Log {
         requires { (at < 240) × (more < 240) }
     {
         let mut v = value;
-        let mut k = 0;
-        while k <= more {
+        for k in 0..more + 1 {
             self.bytes[(at + k) % 240] = v;
             v = higher(v, step);
-            k += 1;
         }
         self
     }

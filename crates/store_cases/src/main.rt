@@ -25,10 +25,8 @@ fn word(n: u64) -> u16 {
 fn set_words(mut store: Store, i: usize, value: u16, more: usize) -> Store
     requires { (i < 1024) × (more < 1024) }
 {
-    let mut k = 0;
-    while k <= more {
+    for k in 0..more + 1 {
         store.words[(i + k) % WORDS] = value;
-        k += 1;
     }
     store
 }
@@ -45,10 +43,8 @@ fn set_used(mut store: Store, used: u64) -> Store {
 
 fn are_same_words(a: [u16; 1024], b: [u16; 1024]) -> bool {
     let mut same = true;
-    let mut k = 0;
-    while k < WORDS {
+    for k in 0..WORDS {
         same = same & (a[k] == b[k]);
-        k += 1;
     }
     same
 }
@@ -99,13 +95,12 @@ fn read_out<W: Write>(to: &mut W, store: Store, room: usize) -> io::Result<()>
 // Four crossings in which every input carries code 8, so that each is believed to from the second on.
 fn four_crossings() -> [u8; 96] {
     let mut log = [0x88u8; 96];
-    let mut at = 0;
-    while at < 96 {
+    for k in 0..4 {
+        let at = 24 * k;
         log[at] = 0;
         log[at + 1] = 0;
         log[at + 2] = 0;
         log[at + 3] = 8;
-        at += 24;
     }
     log
 }
