@@ -163,22 +163,18 @@ fn is_same_clock(a: Clock, b: Clock) -> bool {
 
 fn are_same_ptcs(a: [Ptc; 8], b: [Ptc; 8]) -> bool {
     let mut same = true;
-    let mut k = 0;
-    while k < 8 {
+    for k in 0..8 {
         let p = a[k];
         let q = b[k];
         same = same & is_same_ptc(p, q);
-        k += 1;
     }
     same
 }
 
 fn are_same_marks(a: [u64; 32], b: [u64; 32]) -> bool {
     let mut same = true;
-    let mut k = 0;
-    while k < 32 {
+    for k in 0..32 {
         same = same & (a[k] == b[k]);
-        k += 1;
     }
     same
 }
@@ -193,10 +189,8 @@ fn is_same_held(a: Held, b: Held) -> bool {
 
 pub(crate) fn are_same_settings(a: Settings, b: Settings) -> bool {
     let mut same = true;
-    let mut k = 0;
-    while k < 147 {
+    for k in 0..147 {
         same = same & (a.values[k] == b.values[k]);
-        k += 1;
     }
     same
 }
