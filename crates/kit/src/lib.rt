@@ -8,7 +8,7 @@ ghost use Rattle.kit.specs.Support.Laid.{times_for, busy_of, kit_of};
 use settings::{Gap, Rules, Settings, Waits};
 use status::Merger;
 
-#[derive(Drop)]
+#[derive(Clone, Copy)]
 pub struct Kit {
     pub orbit: u32,
     pub waits: Waits,

@@ -19,7 +19,7 @@ use counts::Counts;
 use cycle::{OPEN, asks_trigger, cycle_code, kept, opened};
 use settings::{Gap, Schedule, Waits};
 
-#[derive(Drop)]
+#[derive(Clone, Copy)]
 pub struct Ptc {
     pub state: u8,
     pub wait: u32,
@@ -31,7 +31,7 @@ pub struct Ptc {
 }
 
 // What of the settings a controller goes by.
-#[derive(Drop)]
+#[derive(Clone, Copy)]
 pub struct Plan {
     pub at: Schedule,
     pub waits: Waits,
@@ -39,7 +39,7 @@ pub struct Plan {
 }
 
 // What all eight see of a crossing: its number, the holder, and which rule refuses a trigger at normal and at low limits, 0 where none does.
-#[derive(Drop)]
+#[derive(Clone, Copy)]
 pub struct Scene {
     pub number: u32,
     pub holder: u32,
@@ -48,7 +48,7 @@ pub struct Scene {
 }
 
 // A controller after a crossing, and what it sent in it.
-#[derive(Drop)]
+#[derive(Clone, Copy)]
 pub struct Crossed {
     pub ptc: Ptc,
     pub code: u8,
@@ -56,7 +56,7 @@ pub struct Crossed {
     pub cal: bool,
 }
 
-#[derive(Drop)]
+#[derive(Clone, Copy)]
 pub struct Commanded {
     pub ptc: Ptc,
     pub taken: bool,

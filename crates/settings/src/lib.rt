@@ -15,7 +15,7 @@ pub use names::{Gap, Ignores, Pause, Rule, Rules, Schedule, Waits};
 pub use relations::Fault;
 
 // The values in the order of the newest edition's lines. Only `names` knows which is which.
-#[derive(Drop)]
+#[derive(Clone, Copy)]
 pub struct Settings {
     pub values: [u32; 147],
 }

@@ -4,14 +4,14 @@ ghost use Rattle.settings.specs.Names.{orbit_of, gap_of, rules_of, ignores_of, w
 ghost use Rattle.settings.specs.Lows.{lows_cleared};
 
 // The crossings from `low` to `high` are closed to requests.
-#[derive(Drop)]
+#[derive(Clone, Copy)]
 pub struct Gap {
     pub low: u32,
     pub high: u32,
 }
 
 // At most `norm` triggers in a period of crossings, or `low` under warning.
-#[derive(Drop)]
+#[derive(Clone, Copy)]
 pub struct Rule {
     pub period: u32,
     pub norm: u32,
@@ -19,7 +19,7 @@ pub struct Rule {
 }
 
 // Rule 1 is the crossings left free after a trigger.
-#[derive(Drop)]
+#[derive(Clone, Copy)]
 pub struct Rules {
     pub spacing: u32,
     pub second: Rule,
@@ -28,28 +28,28 @@ pub struct Rules {
 }
 
 // Which members the merge leaves out.
-#[derive(Drop)]
+#[derive(Clone, Copy)]
 pub struct Ignores {
     pub disc: bool,
     pub bad: bool,
 }
 
 // Orbits to wait around a resynchronisation and around a hard reset.
-#[derive(Drop)]
+#[derive(Clone, Copy)]
 pub struct Pause {
     pub resync: u32,
     pub hard: u32,
 }
 
 // Orbits to wait before and after the signal.
-#[derive(Drop)]
+#[derive(Clone, Copy)]
 pub struct Waits {
     pub settle: Pause,
     pub recover: Pause,
 }
 
 // The crossing numbers at which the codes of these names are sent.
-#[derive(Drop)]
+#[derive(Clone, Copy)]
 pub struct Schedule {
     pub bc0: u32,
     pub te: u32,

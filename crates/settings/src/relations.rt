@@ -12,7 +12,7 @@ use crate::names::{Gap, Rule, Rules, Schedule};
 use answer::Answer;
 
 // What fails first: the relation and the controller. Relation 0 is none.
-#[derive(Drop)]
+#[derive(Clone, Copy)]
 pub struct Fault {
     pub relation: usize,
     pub controller: usize,

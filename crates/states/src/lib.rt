@@ -13,13 +13,13 @@ pub use moves::{advance, entry_wait, orbit_code, rests};
 pub use sound::is_sound;
 
 // A state, and the code that is sent on the way to it, or 0.
-#[derive(Drop)]
+#[derive(Clone, Copy)]
 pub struct Step {
     pub state: u8,
     pub code: u8,
 }
 
-#[derive(Drop)]
+#[derive(Clone, Copy)]
 pub struct Moved {
     pub state: u8,
     pub wait: u32,

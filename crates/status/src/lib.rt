@@ -81,7 +81,7 @@ fn counts(ignores: Ignores, class: u8) -> u8
 }
 
 // What of the settings the merge needs, made once for many crossings.
-#[derive(Drop)]
+#[derive(Clone, Copy)]
 pub struct Merger {
     pub owners: [u32; 40],
     pub ranks: [u8; 32],

@@ -8,7 +8,7 @@ ghost use Rattle.steady.specs.Held.{fresh_held, sound_held};
 ghost use Rattle.steady.specs.Support.News.{news_of};
 
 // Two codes of each input, laid out as the code bytes of a record: the last that it carried and the last that was believed.
-#[derive(Drop)]
+#[derive(Clone, Copy)]
 pub struct Held {
     pub carried: [u8; 21],
     pub believed: [u8; 21],
@@ -52,7 +52,7 @@ pub fn is_firm(carried: &[u8], believed: &[u8]) -> bool
 }
 
 // What following a crossing's codes tells: whether the believed ones stayed, and whether all that it carried are believed now.
-#[derive(Drop)]
+#[derive(Clone, Copy)]
 pub struct News {
     pub stays: bool,
     pub firm: bool,

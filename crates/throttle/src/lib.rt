@@ -108,7 +108,7 @@ fn limit(rule: Rule, warn: bool) -> u32
 }
 
 // How many of the last crossings are marked.
-#[derive(Drop)]
+#[derive(Clone, Copy)]
 struct Counted {
     crossings: u64,
     marked: u64,

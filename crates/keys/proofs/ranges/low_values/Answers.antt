@@ -2,12 +2,8 @@
 -- The checker computes the one into the other.
 use mathlib.Core.Path.{refl}
 use Rattle.keys.specs.Support.Lines.{lines, low_values}
-use Rattle.keys.proofs.ranges.low_values.Statement.{statement}
-use Rattle.keys.proofs.ranges.low_values.Tie as tie
+use Rattle.keys.proofs.ranges.low_values.Goals as goal
 
-returns : tie.Need-returns
+pub returns : goal.returns
 unfolding lines low_values
 returns c = refl
-
-pub low_values_spec : {M : Type 1} → statement M
-low_values_spec = tie.close (tie.spec returns)

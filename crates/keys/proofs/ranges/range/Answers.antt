@@ -5,7 +5,6 @@ use mathlib.Core.Bool.{Bool, true}
 use Prim.Native.Nat.{ℕ, ◌<◌}
 use native.Mathlib.Omega.{arith}
 use borrow.Author.Tests.{eqb-true}
-use borrow.Author.Rules.{rules}
 use lib.Dec.{eqb}
 use lib.ListN.{get_or-map}
 use Rattle.laws.specs.Base.{all_b}
@@ -14,8 +13,7 @@ use Rattle.text.specs.declared.Range.{Range}
 use Rattle.text.specs.Lines.{ranges_of}
 use Rattle.keys.specs.Support.Lines.{lines, line_count, nowhere, range_at, low_values, high_values}
 use Rattle.keys.proofs.Lines.{ranged}
-use Rattle.keys.proofs.ranges.range.Statement.{statement}
-use Rattle.keys.proofs.ranges.range.Tie as tie
+use Rattle.keys.proofs.ranges.range.Goals as goal
 
 has_five : Range → Bool
 has_five r = eqb r.digits 5
@@ -28,29 +26,14 @@ digits : (n : ℕ) → n < line_count → (range_at n).digits ≡ 5
 unfolding has_five range_at
 digits n h = eqb-true _ _ (all_get has_five (ranges_of lines) n nowhere all_five (omega (arith, ranged)))
 
-mul-t4 : tie.Need-mul-t4
-mul-t4 c = search rules
-
-element-copy-out-t7 : tie.Need-element-copy-out-t7
-element-copy-out-t7 c = search rules
-
-mul-t8 : tie.Need-mul-t8
-mul-t8 c = search rules
-
-element-copy-out-t11 : tie.Need-element-copy-out-t11
-element-copy-out-t11 c = search rules
-
-returns : tie.Need-returns
+pub returns : goal.returns
 unfolding range_at low_values high_values
 returns c =
-    let pre = c.before.before.pre in
-    let n : ℕ = c.before.before.args.n in
+    let pre = c.requires in
+    let n : ℕ = c.args.n in
     let rs = ranges_of lines in
     let five = digits n pre.0 in (
       rw (pre.1, pre.2, get_or-map (λ (r : Range). r.low) rs n nowhere, get_or-map (λ (r : Range). r.high) rs n nowhere, ← five),
       omega arith,
       omega arith,
     )
-
-pub range_spec : {M : Type 1} → statement M
-range_spec = tie.close (tie.spec mul-t4 element-copy-out-t7 mul-t8 element-copy-out-t11 returns)
