@@ -1,22 +1,21 @@
 -- What a passed check says: no value is out of its range, and no relation fails, for any of the eight where it is tried for each.
 -- By cases on what was found.
-use mathlib.Core.Path.{◌≡◌, refl, ap, sym, ◌∙◌}
+use mathlib.Core.Path.{◌≡◌, refl, ap}
 use mathlib.Core.Logic.{⊎_elim}
 use mathlib.Core.Bool.{Bool, true, false, false≢true}
 use Prim.Native.Nat.{ℕ, zero, suc, ◌<◌}
 use native.Mathlib.Omega.{arith}
-use borrow.Author.Tests.{eq-eqb, ne_eqb, ltb-true, ltb-false, eqb-true}
+use borrow.Author.Tests.{ltb-false, eqb-true}
 use lib.Dec.{eqb, ltb, lit<}
-use Rattle.laws.specs.Base.{if, first_not}
-use Rattle.laws.proofs.Bools.{if_yes, if_no}
-use Rattle.laws.proofs.Tests.{either, same_or_not}
+use Rattle.laws.specs.Base.{first_not}
+use Rattle.laws.proofs.Tests.{either}
 use Rattle.laws.proofs.First.{first_holds, first_most}
 use Rattle.answer.specs.Told.{Told, DONE, RANGE, RELATION, unless, succeeded}
 use Rattle.answer.proofs.Told.{not_done}
 use Rattle.settings.specs.declared.Settings.{Settings}
 use Rattle.settings.specs.declared.relations.Fault.{Fault}
 use Rattle.settings.specs.Names.{orbit_of, gap_of, rules_of, schedule_of, times_of}
-use Rattle.settings.specs.Relations.{below, distinct, gap_inside, cycle_in_order, lows_fit, fault, held, each, relation, related}
+use Rattle.settings.specs.Relations.{below, distinct, gap_inside, cycle_in_order, lows_fit, held, each, relation, related}
 use Rattle.settings.specs.Check.{out_of_range, checked}
 
 pub record Passed (s : Settings) : Type 0 where

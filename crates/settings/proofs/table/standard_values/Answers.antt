@@ -2,12 +2,8 @@
 -- The checker computes the one into the other.
 use mathlib.Core.Path.{refl}
 use Rattle.settings.specs.Standard.{standard_values}
-use Rattle.settings.proofs.table.standard_values.Statement.{statement}
-use Rattle.settings.proofs.table.standard_values.Tie as tie
+use Rattle.settings.proofs.table.standard_values.Goals as goal
 
-returns : tie.Need-returns
+pub returns : goal.returns
 unfolding standard_values
 returns c = refl
-
-pub standard_values_spec : {M : Type 1} → statement M
-standard_values_spec = tie.close (tie.spec returns)

@@ -1,0 +1,10 @@
+-- `settings::Fault::told` meets its contract: relation 0 is told as a success, any other with its controller.
+-- Rewritten with the test that led there.
+use borrow.Author.Tests.{eq-eqb, ne_eqb}
+use Rattle.settings.proofs.relations.Fault.told.Goals as goal
+
+pub returns-then-self-eq0 : goal.returns-then-self-eq0
+returns-then-self-eq0 c = rw (eq-eqb _ _ c.if-self-eq0.true)
+
+pub returns : goal.returns
+returns c = rw (ne_eqb _ _ c.if-self-eq0.false)
