@@ -12,7 +12,6 @@ use Rattle.answer.specs.Told.{DONE}
 use Rattle.laws.specs.Base.{all_b}
 use Rattle.laws.proofs.Bools.{both}
 use Rattle.text.specs.declared.Range.{Range}
-use Rattle.text.specs.Decimal.{decimal}
 use Rattle.text.specs.Lines.{Entry, keys_of, ranges_of, line_head, line_text, lines_text, within, first_out, sensible}
 use Rattle.text.proofs.Decimal.{digits_within}
 use Rattle.text.proofs.Rows.{row_length}

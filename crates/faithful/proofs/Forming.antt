@@ -11,7 +11,7 @@ use lib.Dec.{eqb, leb}
 use lib.ListN.{length, get_or, take, drop, length-append, length-take, length-drop}
 use lib.Seq.{get_or-drop, take_all}
 use Rattle.laws.specs.Base.{all_b}
-use Rattle.laws.proofs.Bools.{both, and_yes, or-true, if_has}
+use Rattle.laws.proofs.Bools.{both, and_yes, or_true, if_has}
 use Rattle.laws.proofs.Tests.{either, lt_or_ge}
 use Rattle.answer.specs.Told.{Told, DONE, LENGTH, ROOM, LIFE}
 use Rattle.records.specs.Records.{rec_at, is_crossing, well_crossing, well_command, well, crossings_in}
@@ -73,7 +73,7 @@ mended_well rec kept =
     ⊎_elim
     (λ (c : is_crossing rec ≡ true). rw (crossing_formed rec long (eqb-true (get_or rec 0 0) 0 c)))
     (λ (c : known_command rec ≡ true). rw (command_formed rec long c) (or_yes (well_crossing (mended rec))))
-    (or-true (is_crossing rec) (known_command rec) (kept_kind rec kept))
+    (or_true (is_crossing rec) (known_command rec) (kept_kind rec kept))
 
 -- ---- logs of well-formed records
 

@@ -2,6 +2,8 @@
 -- By induction on the pieces: an accepted piece leaves its own output and list in its buffers, and those of the rest follow.
 use mathlib.Core.Path.{refl}
 use mathlib.Core.List.{[], ◌∷◌}
+use Prim.Native.Nat.{◌+◌, ◌/◌}
+use lib.ListN.{length}
 use Rattle.laws.proofs.Bools.{both}
 use Rattle.answer.specs.Told.{succeeded}
 use Rattle.salvage.specs.Mending.{salvaged_parts}
@@ -19,6 +21,6 @@ pieces first (x ∷ xs) between ok =
     let o = salvage_of first x.log x.salvaged x.changes in
     let each = both (succeeded o.answer) _ ok in
     let here = accepted_leaves first x.log x.salvaged x.changes each.0 in
-    let later = pieces _ xs between.1 each.1 in
+    let later = pieces (first + length x.log / 24) xs between.1 each.1 in
     let all = joined first x.log (uncut xs) between.0 in
     (rw (all.0, here.1, later.0), rw (all.1, text_append (changes_in first x.log) _, here.2, later.1))

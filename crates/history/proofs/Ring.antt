@@ -1,6 +1,6 @@
 -- The words of a ring as a list: its length, a place modulo 1,024, words dropped in front and one laid behind, and a walk word by word.
 -- By induction on how many words are in use.
-use mathlib.Core.Path.{◌≡◌, refl, ap, ap₂}
+use mathlib.Core.Path.{◌≡◌, refl, sym, subst, ap, ap₂}
 use mathlib.Core.Logic.{◌≢◌}
 use mathlib.Core.List.{List, [], ◌∷◌, ◌++◌}
 use Prim.Native.Nat.{ℕ, zero, suc, ◌+◌, ◌-◌, ◌%◌, ◌≤◌, ◌<◌}
@@ -39,7 +39,7 @@ module _ (ws : List ℕ) where
   content_push l o (suc n) w h =
       let d : o % 1024 ≢ (o + suc n) % 1024 = λ e. omega arith in
       let f : o + suc n ≡ suc o + n = omega arith in
-      ap₂ (λ (a : ℕ) (r : List ℕ). a ∷ r) (get_or-set_other ws ((o + suc n) % 1024) (o % 1024) w 0 d) (rw f (content_push l (suc o) n w (omega arith)))
+      ap₂ (λ (a : ℕ) (r : List ℕ). a ∷ r) (get_or-set_other ws ((o + suc n) % 1024) (o % 1024) w 0 d) (subst (λ (i : ℕ). content (set ws (i % 1024) w) (suc o) (suc n) ≡ content ws (suc o) n ++ (w ∷ [])) (sym f) (content_push l (suc o) n w (omega arith)))
 
   -- a walk along the words
   pub content_next : (o n i : ℕ) → i < n → content ws (o + i) (n - i) ≡ get_or ws ((o + i) % 1024) 0 ∷ content ws (o + (i + 1)) (n - (i + 1))

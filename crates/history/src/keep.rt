@@ -9,7 +9,7 @@ use crate::scan::walk;
 use crate::{Scan, Store, WORDS};
 
 // A change of the believed code: the orbit count and the number of its crossing, and the new code, 15 for disconnected.
-#[derive(Drop)]
+#[derive(Clone, Copy)]
 pub struct Change {
     pub orbit: u32,
     pub number: u32,
@@ -17,7 +17,7 @@ pub struct Change {
 }
 
 // Where a store is written on: the ring's bounds, and where a scan of its words ends. The words are lent, so that none is copied.
-#[derive(Drop)]
+#[derive(Clone, Copy)]
 pub struct Pen {
     pub oldest: usize,
     pub used: usize,

@@ -14,7 +14,7 @@ pub use scan::{Scan, Tally};
 pub const WORDS: usize = 1024;
 
 // A ring: the words in use are those from the place of the oldest on.
-#[derive(Drop)]
+#[derive(Clone, Copy)]
 pub struct Store {
     pub words: [u16; 1024],
     pub oldest: usize,

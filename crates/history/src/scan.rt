@@ -8,7 +8,7 @@ use crate::WORDS;
 
 // Where a scan stands: 0 where it begins, 1 and 2 in a header, 3 after it, 3 + n after the n-th change under it, 68 where the words
 // make no group. The two words are those of the last header's orbit count.
-#[derive(Drop)]
+#[derive(Clone, Copy)]
 pub struct Scan {
     pub place: u8,
     pub high: u16,
@@ -16,7 +16,7 @@ pub struct Scan {
 }
 
 // Where a scan of all words ends, and how many of them are changes.
-#[derive(Drop)]
+#[derive(Clone, Copy)]
 pub struct Tally {
     pub scan: Scan,
     pub changes: usize,

@@ -2,10 +2,10 @@
 -- The kit's laws of leading zeros give its place; or-ing neither lengthens nor shortens.
 use mathlib.Core.Path.{◌≡◌, refl, ◌∙◌}
 use mathlib.Core.Logic.{⊎_elim}
-use Prim.Native.Nat.{ℕ, suc, ◌+◌, ◌-◌, ◌*◌, ◌/◌, ◌^◌, ◌≤◌, ◌<◌, max}
+use Prim.Native.Nat.{ℕ, suc, ◌+◌, ◌-◌, ◌*◌, ◌/◌, ◌%◌, ◌^◌, ◌≤◌, ◌<◌, max}
 use native.Mathlib.Nat.{pow-suc}
 use native.Mathlib.Omega.{arith}
-use lib.Bits.{bit_or, or_lt, or_add_and, and_le_r, or_comm}
+use lib.Bits.{bit_and, bit_or, or_lt, or_add_and, and_le_r, and_comm, and_mask, or_comm}
 use lib.Count.{count_leading_zeros, leading_top, leading_unique}
 use lib.Pow.{pow_mono}
 use Rattle.laws.proofs.Tests.{lt_or_ge}
@@ -13,7 +13,9 @@ use Rattle.lanes.specs.Support.Lanes.{top_of}
 
 -- bit 0 is set, the others stay
 odd : (x : ℕ) → bit_or 1 x ≡ x / 2 * 2 + 1
-odd x = omega arith
+odd x =
+    let m : bit_and x 1 ≡ x % 2 = and_mask x 1 in
+    omega (arith, or_add_and 1 x, and_comm 1 x, m)
 
 -- j is the place of the highest bit of x with bit 0 set
 pub record Top (x j : ℕ) : Type 0 where

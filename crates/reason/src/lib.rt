@@ -10,7 +10,7 @@ ghost use Rattle.reason.specs.Support.Room.{values_of, value_most, answer_most, 
 use answer::Answer;
 
 // What an answer carries, in the order of its table.
-#[derive(Drop)]
+#[derive(Clone, Copy)]
 enum Values {
     Nothing,
     One(usize),

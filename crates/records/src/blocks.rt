@@ -14,7 +14,7 @@ const BLOCK: usize = 1536;
 const BLOCK_ROWS: usize = 768;
 
 // The first refusal, and how many records stand before its block; or Done, and all records.
-#[derive(Drop)]
+#[derive(Clone, Copy)]
 pub struct Tested {
     pub answer: Answer,
     pub records: usize,

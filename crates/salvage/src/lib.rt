@@ -24,7 +24,7 @@ const LONGEST: usize = MOST as usize;
 const ENTRIES: usize = 1248;
 
 // The answer, and how many bytes were written of the salvaged log and of the list of changes.
-#[derive(Drop)]
+#[derive(Clone, Copy)]
 pub struct Salvaged {
     pub answer: Answer,
     pub log: usize,
@@ -32,7 +32,7 @@ pub struct Salvaged {
 }
 
 // How many bytes the salvaged log and the list of changes have.
-#[derive(Drop)]
+#[derive(Clone, Copy)]
 struct Lengths {
     log: usize,
     list: usize,

@@ -1,0 +1,14 @@
+-- `states::commands::takes_hard` meets its contract: state 18, or both of two tests.
+-- Each way is read from its branches.
+use mathlib.Core.Bool.{or-false}
+use borrow.Author.Tests.{le-leb, lt-leb, ne_eqb}
+use Rattle.states.proofs.commands.takes_hard.Goals as goal
+
+pub returns-then-state-eq18 : goal.returns-then-state-eq18
+returns-then-state-eq18 c = rw c.if-state-eq18.true
+
+pub returns-then-state-ge6 : goal.returns-then-state-ge6
+returns-then-state-ge6 c = rw (le-leb _ _ c.if-state-ge6.true, ne_eqb _ _ c.if-state-eq18.false, or-false)
+
+pub returns-else-state-ge6 : goal.returns-else-state-ge6
+returns-else-state-ge6 c = rw (lt-leb _ _ c.if-state-ge6.false, ne_eqb _ _ c.if-state-eq18.false)

@@ -1,0 +1,15 @@
+-- `status::owners` meets its contract: a loop fills the table in order.
+-- The first n places hold the table's already, and after the last turn all do.
+use mathlib.Core.Path.{◌≡◌}
+use Prim.Native.Nat.{◌-◌, ◌≤◌}
+use lib.ListN.{length}
+use Rattle.laws.specs.Base.{tabulate}
+use Rattle.laws.proofs.Over.{over}
+use Rattle.status.specs.Support.Merger.{owner_of}
+use Rattle.status.proofs.owners.Given as goal
+
+abbrev pub invariant-loop-n : goal.invariant-loop-n
+invariant-loop-n l = (l.n ≤ 40) × (length l.initial.all ≡ 40) × (l.all ≡ over l.n (tabulate (owner_of l.s) 0 40) l.initial.all)
+
+abbrev pub decreases-loop-n : goal.decreases-loop-n
+decreases-loop-n l = 40 - l.n
