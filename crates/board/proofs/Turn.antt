@@ -136,11 +136,14 @@ module _ {first : Board} {log : List ℕ} {n : ℕ} {old : List ℕ} {kit : Kit}
   pub ptcs_long : length kept.ptcs ≡ 8
   ptcs_long = fit_at.ptcs
 
+  settings_at : first.settings ≡ now.settings
+  settings_at = sym (ap (λ (b : Board). b.settings) t.here.board ∙ ran_settings first log i)
+
   own_at : kit ≡ kit_of now.settings
-  own_at = t.made ∙ rw (t.here.board, ran_settings first log i)
+  own_at = t.made ∙ ap kit_of settings_at
 
   busy_at : busy ≡ busy_of now.settings
-  busy_at = t.marked ∙ rw (t.here.board, ran_settings first log i)
+  busy_at = t.marked ∙ ap busy_of settings_at
 
   plan_at : (k : ℕ) → plans_in kit k ≡ plan_of now.settings k
   unfolding kit_of

@@ -23,7 +23,7 @@ use settings::Settings;
 use steady::Held;
 use still::Sight;
 
-#[derive(Drop)]
+#[derive(Clone, Copy)]
 pub struct Board {
     pub settings: Settings,
     pub clock: Clock,
@@ -35,14 +35,14 @@ pub struct Board {
 }
 
 // What making a fresh board gives back.
-#[derive(Drop)]
+#[derive(Clone, Copy)]
 pub struct Made {
     pub answer: Answer,
     pub board: Board,
 }
 
 // What a block gives back.
-#[derive(Drop)]
+#[derive(Clone, Copy)]
 pub struct Ran {
     pub answer: Answer,
     pub board: Board,

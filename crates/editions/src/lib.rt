@@ -19,14 +19,14 @@ use tables::{count, place, source, stops};
 use text::{Line, Range};
 
 // What a text was read as.
-#[derive(Drop)]
+#[derive(Clone, Copy)]
 pub struct Read {
     pub answer: Answer,
     pub settings: Settings,
 }
 
 // What its lines were read as: the numbers of as many as its edition has.
-#[derive(Drop)]
+#[derive(Clone, Copy)]
 struct Got {
     answer: Answer,
     numbers: [u32; 149],

@@ -21,7 +21,7 @@ use records::RECORD;
 use settings::{Rules, Waits};
 
 // What is told from one record to the next, and what this crossing brings.
-#[derive(Drop)]
+#[derive(Clone, Copy)]
 pub struct Sight {
     pub turn: Turn,
     pub classes: [u8; 8],

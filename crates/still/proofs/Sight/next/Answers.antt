@@ -5,7 +5,6 @@ use mathlib.Core.Bool.{Bool, true, ◌&&◌}
 use mathlib.Core.List.{List}
 use Prim.Native.Nat.{ℕ, ◌+◌, ◌*◌, ◌-◌, ◌<◌}
 use native.Mathlib.Omega.{arith}
-use borrow.Author.Rules.{rules}
 use lib.Dec.{eqb}
 use lib.ListN.{length, get_or, take, drop}
 use Rattle.status.specs.Codes.{Coded}
@@ -24,8 +23,7 @@ use Rattle.records.proofs.Laws.{rec_byte, codes_lent}
 use Rattle.still.specs.declared.Sight.{Sight}
 use Rattle.still.specs.Support.Still.{due_of}
 use Rattle.still.specs.Support.Sight.{sight_of}
-use Rattle.still.proofs.Sight.next.Statement.{statement}
-use Rattle.still.proofs.Sight.next.Tie as tie
+use Rattle.still.proofs.Sight.next.Goals as goal
 
 -- the codes that are lent
 abbrev lent : List ℕ → ℕ → List ℕ
@@ -60,109 +58,25 @@ sight_is busy table slots clock old calm carried believed log i turn classes new
     let requests = rec_byte log i 2 (omega arith) in
     rw (d, f, n, t, e, c, a, w, codes_lent log i, ← marker, ← requests)
 
-mul-marker : tie.Need-overflow-mul-marker
-mul-marker c = search rules
-
-add-marker : tie.Need-overflow-add-marker
-add-marker c = search rules
-
-shared-slice-read-marker : tie.Need-shared-slice-read-marker
-shared-slice-read-marker c = search rules
-
-mul-requests : tie.Need-overflow-mul-requests
-mul-requests c = search rules
-
-add-requests : tie.Need-overflow-add-requests
-add-requests c = search rules
-
-shared-slice-read-requests : tie.Need-shared-slice-read-requests
-shared-slice-read-requests c = search rules
-
-mul-codes : tie.Need-overflow-mul-codes
-mul-codes c = search rules
-
-add-codes : tie.Need-overflow-add-codes
-add-codes c = search rules
-
-mul-codes-2 : tie.Need-overflow-mul-codes-2
-mul-codes-2 c = search rules
-
-add-codes-2 : tie.Need-overflow-add-codes-2
-add-codes-2 c = search rules
-
-sub-codes : tie.Need-overflow-sub-codes
-sub-codes c = search rules
-
-part-codes-start : tie.Need-slice-bounds-codes-start
-part-codes-start c = search rules
-
-part-codes-end : tie.Need-slice-bounds-codes-end
-part-codes-end c = search rules
-
-follow-requires : tie.Need-follow-requires
-follow-requires c κs =
-    let a = c.before.before.before.before.before.before.args in
-    let p = c.before.before.before.before.before.before.requires in
+pub follow-news-requires : goal.follow-news-requires
+follow-news-requires c =
+    let a = c.args in
+    let p = c.requires in
     (p.2.long, p.3.long, lent_long a.carried.now a.believed.now a.log.now a.i p.1 p.2 p.3, p.5)
 
-classes-of-requires : tie.Need-classes-of-requires
-classes-of-requires c κs =
-    let f = c.before.before in
-    let a = f.before.before.before.before.before.before.before in
+pub classes_of-classes-requires : goal.classes_of-classes-requires
+classes_of-classes-requires c =
+    let a = c in
     let p = a.requires in
-    merge_asked a.args.carried.now a.args.believed.now a.args.log.now a.args.i p.1 p.2 p.3 _ _ _ _ f.follow.ensures.0 f.follow.ensures.1 p.4
+    merge_asked a.args.carried.now a.args.believed.now a.args.log.now a.args.i p.1 p.2 p.3 _ _ _ _ c.follow-news.ensures.0 c.follow-news.ensures.1 p.4
 
-ends-orbit-requires : tie.Need-ends-orbit-requires
-ends-orbit-requires c κs = search rules
-
-turned-requires : tie.Need-turned-requires
-turned-requires c κs = search rules
-
-number-requires : tie.Need-number-requires
-number-requires c κs = search rules
-
-both-requires : tie.Need-both-requires
-both-requires c κs = search rules
-
-due-requires : tie.Need-due-requires
-due-requires c κs = search rules
-
-returns : tie.Need-returns
+pub returns : goal.returns
 returns c =
-    let t = c.before.before.before in
-    let k = t.before.before in
-    let f = k.before.before.before in
-    let a = f.before.before.before.before.before.before.before.args in
+    let a = c.args in
     let Lent-is = codes_lent a.log.now a.i in (
       sight_is a.busy.now a.table.now a.slots.now a.clock a.self.turn a.calm a.carried.now a.believed.now a.log.now a.i _ _ _ _ _ _ _ _
-          f.follow.ensures.0 f.follow.ensures.1 k.classes-of.ensures t.before.ends-orbit.ensures t.turned.ensures c.before.before.number.ensures
-          c.before.both.ensures c.due.ensures,
-      f.follow.ensures.1 ∙ ap (believed_of a.carried.now a.believed.now) Lent-is,
-      f.follow.ensures.2 ∙ Lent-is,
+          c.follow-news.ensures.0 c.follow-news.ensures.1 c.classes_of-classes.ensures c.ends_orbit.ensures c.turned-turn.ensures c.number-number.ensures
+          c.both.ensures c.due.ensures,
+      c.follow-news.ensures.1 ∙ ap (believed_of a.carried.now a.believed.now) Lent-is,
+      c.follow-news.ensures.2 ∙ Lent-is,
     )
-
-pub next_spec : {M : Type 1} → statement M
-next_spec =
-    tie.close
-    (tie.spec
-    mul-marker
-    add-marker
-    shared-slice-read-marker
-    mul-requests
-    add-requests
-    shared-slice-read-requests
-    mul-codes
-    add-codes
-    mul-codes-2
-    add-codes-2
-    sub-codes
-    part-codes-start
-    part-codes-end
-    follow-requires
-    classes-of-requires
-    ends-orbit-requires
-    turned-requires
-    number-requires
-    both-requires
-    due-requires
-    returns)

@@ -4,7 +4,6 @@ use mathlib.Core.Path.{◌≡◌, sym, ◌∙◌}
 use mathlib.Core.Bool.{Bool, true, false, not, ◌||◌}
 use mathlib.Core.List.{List}
 use Prim.Native.Nat.{ℕ, ◌%◌}
-use borrow.Author.Rules.{rules}
 use lib.Dec.{eqb}
 use lib.ListN.{get_or}
 use Rattle.settings.specs.declared.names.Rules.{Rules}
@@ -19,8 +18,7 @@ use Rattle.ptc.specs.Support.Times.{schedule_from}
 use Rattle.records.specs.Records.{asked_in}
 use Rattle.still.specs.declared.Sight.{Sight}
 use Rattle.still.specs.Support.Sight.{scene_for}
-use Rattle.still.proofs.Sight.scene.Statement.{statement}
-use Rattle.still.proofs.Sight.scene.Tie as tie
+use Rattle.still.proofs.Sight.scene.Goals as goal
 
 module _ (times : List ℕ) (waits : Waits) (rules : Rules) (p : Ptc) (sight : Sight) (marks : List ℕ) (clock : Clock) (number : ℕ) where
   abbrev asks : Bool
@@ -39,39 +37,8 @@ module _ (times : List ℕ) (waits : Waits) (rules : Rules) (p : Ptc) (sight : S
   unfolding scene_for
   idle_is n a = rw (n, a)
 
-number-requires : tie.Need-number-requires
-number-requires c κs = search rules
+pub returns-then-asks : goal.returns-then-asks
+returns-then-asks c = asked_is _ _ _ _ _ _ _ _ _ _ c.number-number.ensures (sym c.asks.ensures ∙ c.if-asks.true) c.is_warned-warn.ensures c.refused_by-rule.ensures
 
-asks-requires : tie.Need-asks-requires
-asks-requires c κs = search rules
-
-cast-h : tie.Need-overflow-cast-h
-cast-h c = search rules
-
-array-read-is-warned : tie.Need-array-read-is-warned
-array-read-is-warned c = search rules
-
-is-warned-requires : tie.Need-is-warned-requires
-is-warned-requires c κs = search rules
-
-refused-by-requires : tie.Need-refused-by-requires
-refused-by-requires c κs = search rules
-
-returns : tie.Need-returns
-returns c = asked_is _ _ _ _ _ _ _ _ _ _ c.before.before.before.before.before.number.ensures (sym c.before.before.before.before.asks.ensures ∙ c.before.before.before.if1.true) c.before.is-warned.ensures c.refused-by.ensures
-
-returns-2 : tie.Need-returns-2
-returns-2 c = idle_is _ _ _ _ _ _ _ _ c.before.before.number.ensures (sym c.before.asks.ensures ∙ c.if1.false)
-
-pub scene_spec : {M : Type 1} → statement M
-scene_spec =
-    tie.close
-    (tie.spec
-    number-requires
-    asks-requires
-    cast-h
-    array-read-is-warned
-    is-warned-requires
-    refused-by-requires
-    returns
-    returns-2)
+pub returns-else-asks : goal.returns-else-asks
+returns-else-asks c = idle_is _ _ _ _ _ _ _ _ c.number-number.ensures (sym c.asks.ensures ∙ c.if-asks.false)

@@ -1,0 +1,13 @@
+-- `board::from_checked` meets its contract: the parts of a fresh board, each written out or as its call ensures it.
+-- Settings that pass the check have slots that the turn can count with.
+use Rattle.board.specs.Fresh.{fresh_board}
+use Rattle.kit.proofs.Settled.{slot_room}
+use Rattle.board.proofs.from_checked.Goals as goal
+
+pub fresh-turn-requires : goal.fresh-turn-requires
+fresh-turn-requires c =
+    rw c.slots_of-slots.ensures (slot_room c.args.s c.requires)
+
+pub returns : goal.returns
+unfolding fresh_board
+returns c = rw (c.fresh-held.ensures, c.fresh-ptc.ensures, c.fresh-turn.ensures, c.slots_of-slots.ensures)
