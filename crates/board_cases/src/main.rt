@@ -4,6 +4,8 @@
 // the held codes (w is 0: carried, 1: believed), and `c v` holds code v for every input. `a kind b1 b2 b3`
 // adds a record, a crossing having every code 8; `z at v` sets a byte of the log, `l n` its length. `b room` runs the log as
 // a block with a rows buffer of that length, and goes on with the board that it leaves. `f` makes a fresh board of the settings.
+#![tactic(auto)]
+
 mod boards;
 
 ghost use Rattle.std.specs.Prelude.{◌≤◌, length};
@@ -13,14 +15,15 @@ use boards::{
     are_same_settings, is_same, set_clock, set_codes, set_held, set_mark, set_ptc, set_setting,
 };
 use cases::{
-    Words, after, at_most, byte, end_line, line_end, record_of, say_answer, say_comment, say_left,
-    say_written, words_of,
+    Words, after, at_most, byte, end_line, line_end, read_input, record_of, say_answer,
+    say_comment, say_left, say_written, words_of,
 };
-use libc::STDIN_FILENO;
 use settings::Settings;
+use std::io;
+use std::io::Write;
 
 // The log that the lines have made: the first `long` bytes.
-#[derive(Drop)]
+#[derive(Clone, Copy)]
 struct Log {
     bytes: [u8; 960],
     long: usize,
@@ -37,17 +40,24 @@ fn rows_end(done: bool, long: usize, room: usize) -> usize
 }
 
 // Runs a block over the first bytes of a rows buffer, and tells what it left.
-fn run_block(before: Board, log: &[u8], rows: &mut [u8], room: usize) -> Board
+fn run_block<W: Write>(
+    out: &mut W,
+    before: Board,
+    log: &[u8],
+    rows: &mut [u8],
+    room: usize,
+) -> io::Result<Board>
     requires { room ≤ length rows.old }
 {
     let r = before.block(log, &mut rows[..room]);
     let a = r.answer;
     let board = r.board;
     let done = a.is_done();
-    say_answer(b"answer ", a);
-    say_left(b", board", is_same(before, board));
-    say_written(b", rows", rows, done, rows_end(done, log.len(), room), 12);
-    board
+    say_answer(out, b"answer ", a)?;
+    say_left(out, b", board", is_same(before, board))?;
+    let end = rows_end(done, log.len(), room);
+    say_written(out, b", rows", rows, done, end, 12)?;
+    Ok(board)
 }
 
 impl Log {
@@ -74,7 +84,7 @@ impl Log {
         let mut bytes = self.bytes;
         text::put_bytes(&mut bytes, at, &rec);
         Log {
-            bytes: bytes,
+            bytes,
             long: at + 24,
         }
     }
@@ -102,62 +112,64 @@ fn fresh_board() -> Board {
     made.board
 }
 
-fn run_log(board: Board, log: Log, room: usize) -> Board
+fn run_log<W: Write>(out: &mut W, board: Board, log: Log, room: usize) -> io::Result<Board>
     requires { room ≤ 480 }
 {
     // No line makes the log longer than its buffer; the bound is taken again for the proof.
     let n = at_most(log.long as u64, 960);
     let bytes = log.bytes;
     let mut rows = [170u8; 480];
-    run_block(board, &bytes[..n], &mut rows, room)
+    run_block(out, board, &bytes[..n], &mut rows, room)
 }
 
-fn remade(before: Board) -> Board {
+fn remade<W: Write>(out: &mut W, before: Board) -> io::Result<Board> {
     let made = Board::fresh(before.settings);
     let a = made.answer;
     let board = made.board;
-    say_answer(b"answer ", a);
+    say_answer(out, b"answer ", a)?;
     say_left(
+        out,
         b", settings",
         are_same_settings(before.settings, board.settings),
-    );
-    end_line();
-    board
+    )?;
+    end_line(out)?;
+    Ok(board)
 }
 
 // The board after a line.
-fn obey(board: Board, log: Log, w: Words) -> Board {
+fn obey<W: Write>(out: &mut W, board: Board, log: Log, w: Words) -> io::Result<Board> {
     let letter = w.letter;
     match letter {
-        b'n' => fresh_board(),
-        b's' => set_setting(board, at_most(w.a, 146), w.b),
-        b'v' => set_clock(board, w.a, w.b),
-        b'p' => set_ptc(board, at_most(w.a, 7), w.b, w.c),
-        b'm' => set_mark(board, at_most(w.a, 31), w.b),
-        b'h' => set_held(board, w.a == 1, at_most(w.b, 20), w.c),
-        b'c' => set_codes(board, w.a),
-        b'b' => run_log(board, log, at_most(w.a, 480)),
-        b'f' => remade(board),
-        _ => board,
+        b'n' => Ok(fresh_board()),
+        b's' => Ok(set_setting(board, at_most(w.a, 146), w.b)),
+        b'v' => Ok(set_clock(board, w.a, w.b)),
+        b'p' => Ok(set_ptc(board, at_most(w.a, 7), w.b, w.c)),
+        b'm' => Ok(set_mark(board, at_most(w.a, 31), w.b)),
+        b'h' => Ok(set_held(board, w.a == 1, at_most(w.b, 20), w.c)),
+        b'c' => Ok(set_codes(board, w.a)),
+        b'b' => run_log(out, board, log, at_most(w.a, 480)),
+        b'f' => remade(out, board),
+        _ => Ok(board),
     }
 }
 
-fn obey_all(input: &[u8]) {
+fn obey_all<W: Write>(out: &mut W, input: &[u8]) -> io::Result<()> {
     let mut board = fresh_board();
     let mut log = Log::empty();
     let mut at = 0;
     while at < input.len() {
         let end = line_end(input, at);
         let w = words_of(&input[at..end]);
-        say_comment(&input[at..end], w.letter);
+        say_comment(out, &input[at..end], w.letter)?;
         log = log.obey(w);
-        board = obey(board, log, w);
+        board = obey(out, board, log, w)?;
         at = after(input, end);
     }
+    Ok(())
 }
 
-fn main() {
+fn main(rt: HostRuntime) -> io::Result<()> {
     let mut input = [0u8; 8192];
-    let n = io::read_full(STDIN_FILENO, &mut input);
-    obey_all(&input[..n]);
+    let n = read_input(rt.stdin(), &mut input)?;
+    obey_all(&mut io::writer(&rt), &input[..n])
 }

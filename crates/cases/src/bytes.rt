@@ -2,6 +2,8 @@
 ghost use Rattle.std.specs.Prelude.{◌<◌, ◌≤◌, length};
 
 use crate::{end_line, say};
+use std::io;
+use std::io::Write;
 
 fn hex(n: u8) -> u8
     requires { n < 16 }
@@ -9,29 +11,29 @@ fn hex(n: u8) -> u8
     if n < 10 { 48 + n } else { 87 + n }
 }
 
-fn say_byte(b: u8) {
+fn say_byte<W: Write>(out: &mut W, b: u8) -> io::Result<()> {
     let digits = [hex(b / 16), hex(b % 16)];
-    say(&digits);
+    say(out, &digits)
 }
 
-fn say_gap(k: usize, group: usize)
+fn say_gap<W: Write>(out: &mut W, k: usize, group: usize) -> io::Result<()>
     requires { 0 < group }
 {
     if k % group == 0 {
-        say(b" ");
+        say(out, b" ")?;
     }
+    Ok(())
 }
 
 // The bytes before a place, in groups.
-fn say_bytes(bytes: &[u8], end: usize, group: usize)
+fn say_bytes<W: Write>(out: &mut W, bytes: &[u8], end: usize, group: usize) -> io::Result<()>
     requires { (end ≤ length bytes.now) × (0 < group) }
 {
-    let mut k = 0;
-    while k < end {
-        say_gap(k, group);
-        say_byte(bytes[k]);
-        k += 1;
+    for k in 0..end {
+        say_gap(out, k, group)?;
+        say_byte(out, bytes[k])?;
     }
+    Ok(())
 }
 
 // Whether a buffer, which held 170 everywhere, does from a place on.
@@ -39,41 +41,51 @@ fn is_untouched(bytes: &[u8], from: usize) -> bool
     requires { from ≤ length bytes.now }
 {
     let mut same = true;
-    let mut k = from;
-    while k < bytes.len() {
+    for k in from..bytes.len() {
         same = same & (bytes[k] == 170);
-        k += 1;
     }
     same
 }
 
-// Whether a call left something as it was. No contract can say what is printed.
-pub fn say_left(what: &[u8], same: bool) {
-    say(what);
+// Whether a call left something as it was.
+pub fn say_left<W: Write>(out: &mut W, what: &[u8], same: bool) -> io::Result<()> {
+    say(out, what)?;
     if same {
-        say(b" kept");
+        say(out, b" kept")
     } else {
-        say(b" changed");
+        say(out, b" changed")
     }
 }
 
-// Whether a buffer that held 170 everywhere does from a place on. No contract can say what is printed.
-pub fn say_untouched(what: &[u8], bytes: &[u8], from: usize)
+// Whether a buffer that held 170 everywhere does from a place on.
+pub fn say_untouched<W: Write>(
+    out: &mut W,
+    what: &[u8],
+    bytes: &[u8],
+    from: usize,
+) -> io::Result<()>
     requires { from ≤ length bytes.now }
 {
-    say_left(what, is_untouched(bytes, from));
+    say_left(out, what, is_untouched(bytes, from))
 }
 
 // The bytes before a place, in groups, and whether a call that was done wrote nothing after them, or a refused one nothing at
-// all: the buffer held 170 everywhere. No contract can say what is printed.
-pub fn say_written(what: &[u8], bytes: &[u8], done: bool, end: usize, group: usize)
+// all: the buffer held 170 everywhere.
+pub fn say_written<W: Write>(
+    out: &mut W,
+    what: &[u8],
+    bytes: &[u8],
+    done: bool,
+    end: usize,
+    group: usize,
+) -> io::Result<()>
     requires { (end ≤ length bytes.now) × (0 < group) }
 {
-    say_bytes(bytes, end, group);
+    say_bytes(out, bytes, end, group)?;
     if done {
-        say_untouched(b", later bytes", bytes, end);
+        say_untouched(out, b", later bytes", bytes, end)?;
     } else {
-        say_untouched(what, bytes, end);
+        say_untouched(out, what, bytes, end)?;
     }
-    end_line();
+    end_line(out)
 }

@@ -1,62 +1,77 @@
 // What the case programs share: the lines of their input, and how they print texts, numbers, answers and bytes.
+#![tactic(auto)]
+
 mod bytes;
 mod line;
 mod record;
 
-ghost use Rattle.std.specs.Prelude.{◌≡◌, ◌+◌, ◌≤◌, min, length};
+ghost use Rattle.std.specs.Prelude.{◌≡◌, ◌+◌, ◌≤◌, min, length, IfOk};
 ghost use Rattle.cases.specs.Lines.{EndsLine};
 
 use answer::Answer;
 pub use bytes::{say_left, say_untouched, say_written};
-use libc::STDOUT_FILENO;
+use files::read_piece;
 pub use line::{Words, at_most, words_of};
 pub use record::{byte, record_of};
+use std::io;
+use std::io::{Read, Write};
 
-// No contract can say what is printed.
-pub fn say(text: &[u8]) {
-    io::write_all(STDOUT_FILENO, text);
-}
-
-// No contract can say what is printed.
-pub fn end_line() {
-    say(b"\n");
-}
-
-// The line, where its letter makes it a comment. No contract can say what is printed.
-pub fn say_comment(line: &[u8], letter: u8) {
-    if letter == b'#' {
-        say(line);
-        end_line();
+// The front of a buffer that the whole input lies in, or as much of it as has room there.
+pub fn read_input<R: Read + Drop>(input: R, room: &mut [u8]) -> io::Result<usize>
+    ensures { IfOk result (λ n. n ≤ length room.new) }
+{
+    let mut input = Some(input);
+    let got = read_piece(&mut input, room);
+    match got.failed {
+        None => Ok(got.count),
+        Some(error) => Err(error),
     }
 }
 
-// A number after a text. No contract can say what is printed.
-pub fn say_number(before: &[u8], n: u64) {
-    say(before);
-    io::print_decimal(STDOUT_FILENO, n);
+pub fn say<W: Write>(out: &mut W, text: &[u8]) -> io::Result<()> {
+    out.write_all(text)
 }
 
-fn say_carried(value: usize) {
-    say_number(b" carries ", value as u64);
+pub fn end_line<W: Write>(out: &mut W) -> io::Result<()> {
+    say(out, b"\n")
 }
 
-// The refusal's number or 0 after a text, and what it carries. No contract can say what is printed.
-pub fn say_answer(before: &[u8], a: Answer) {
-    say_number(before, a.number());
+// The line, where its letter makes it a comment.
+pub fn say_comment<W: Write>(out: &mut W, line: &[u8], letter: u8) -> io::Result<()> {
+    if letter == b'#' {
+        say(out, line)?;
+        end_line(out)?;
+    }
+    Ok(())
+}
+
+// A number after a text.
+pub fn say_number<W: Write>(out: &mut W, before: &[u8], n: u64) -> io::Result<()> {
+    say(out, before)?;
+    write!(out, "{n}")
+}
+
+fn say_carried<W: Write>(out: &mut W, value: usize) -> io::Result<()> {
+    say_number(out, b" carries ", value as u64)
+}
+
+// The refusal's number or 0 after a text, and what it carries.
+pub fn say_answer<W: Write>(out: &mut W, before: &[u8], a: Answer) -> io::Result<()> {
+    say_number(out, before, a.number())?;
     match a {
-        Answer::Done => {}
-        Answer::Text(line) => say_carried(line),
-        Answer::Range(line) => say_carried(line),
+        Answer::Done => Ok(()),
+        Answer::Text(line) => say_carried(out, line),
+        Answer::Range(line) => say_carried(out, line),
         Answer::Relation(which, k) => {
-            say_carried(which);
-            say_number(b" ", k as u64);
+            say_carried(out, which)?;
+            say_number(out, b" ", k as u64)
         }
-        Answer::Board => {}
-        Answer::Length => {}
-        Answer::Room(needed) => say_carried(needed),
-        Answer::Record(index) => say_carried(index),
-        Answer::Life => {}
-        Answer::Store => {}
+        Answer::Board => Ok(()),
+        Answer::Length => Ok(()),
+        Answer::Room(needed) => say_carried(out, needed),
+        Answer::Record(index) => say_carried(out, index),
+        Answer::Life => Ok(()),
+        Answer::Store => Ok(()),
     }
 }
 

@@ -4,7 +4,7 @@ ghost use Rattle.laws.specs.Base.{if, one};
 ghost use Rattle.cases.specs.Words.{digit_more, number_after};
 
 // A line's letter, or 0, and its numbers.
-#[derive(Drop)]
+#[derive(Clone, Copy)]
 pub struct Words {
     pub letter: u8,
     pub a: u64,
@@ -14,6 +14,7 @@ pub struct Words {
 }
 
 // One digit more, of at most 18, where it is asked for; what is no digit changes nothing.
+#[tactic(auto, unfolding(crate::specs::Words::digit_more))]
 fn longer(value: u64, b: u8, asked: bool) -> u64
     ensures { result ≡ if asked (digit_more value b) value }
 {

@@ -18,6 +18,7 @@ fn code(kind: u8) -> u8
 }
 
 // A crossing has every code 8 but the GTFE's, which is the last number; another kind has 0 there.
+#[tactic(auto, unfolding(crate::specs::Record::record_of))]
 pub fn record_of(w: Words) -> [u8; 24]
     ensures { result ≡ record_of w.a w.b w.c w.d }
 {

@@ -1,11 +1,15 @@
 // Replays the log of a bench: reads `board.set` and `run.rec` of the folder that it is run in, and prints the report, or the
 // number of the first refusal.
+#![tactic(auto)]
+
 ghost use Rattle.std.specs.Prelude.{◌≤◌, length, take};
 ghost use Rattle.report.specs.Fits.{report_room};
 ghost use Rattle.desk.specs.Printed.{Closing, OfSomeFiles};
 
 use board::Board;
-use libc::STDOUT_FILENO;
+use std::io;
+use std::io::Write;
+use std::process::ExitCode;
 
 // The report at the front of a buffer that has room for every report, and how many bytes it has: what is printed for some text
 // and some log. Writing it is never refused here.
@@ -17,27 +21,26 @@ fn lay_report(board: Board, text: &mut [u8]) -> usize
     report::text_length(board)
 }
 
-fn print_report(board: Board)
+fn print_report<W: Write>(out: &mut W, board: Board) -> io::Result<()>
     requires { Closing board }
 {
     let mut text = [0u8; 8192];
     let n = lay_report(board, &mut text);
-    ending::finish(io::write_all(STDOUT_FILENO, &text[..n]));
+    out.write_all(&text[..n])
 }
 
-fn main() {
-    let opened = shell::open_board();
+fn main(rt: HostRuntime) -> ExitCode {
+    let mut text = files::open(&rt, "board.set");
+    let opened = shell::open_board(&mut text);
     let made = opened.made;
-    let read = made.answer;
-    if ending::is_over(b"board.set", opened.failed, read) {
-        return;
+    if ending::is_over(&rt, "board.set", opened.failed, made.answer) {
+        return ExitCode::FAILURE;
     }
-    let last = shell::replay_log(made.board);
-    let got = last.got;
+    let mut log = files::open(&rt, "run.rec");
+    let last = shell::replay_log(&mut log, made.board);
     let ran = last.ran;
-    let replayed = ran.answer;
-    if ending::is_over(b"run.rec", got.failed, replayed) {
-        return;
+    if ending::is_over(&rt, "run.rec", last.got.failed, ran.answer) {
+        return ExitCode::FAILURE;
     }
-    print_report(ran.board);
+    ending::finish(&rt, print_report(&mut io::writer(&rt), ran.board))
 }

@@ -1,32 +1,35 @@
 // Brings a bench's settings to the newest edition: reads `board.set` of the folder that it is run in and prints it in that edition, or
 // the number of its refusal.
+#![tactic(auto)]
+
 ghost use Rattle.std.specs.Prelude.{◌≤◌, length, take};
 ghost use Rattle.editions.specs.Support.Prefix.{text_most};
 ghost use Rattle.desk_edition.specs.Printed.{ReadOfSome, Upgrading, OfSomeText};
 
 use editions::Read;
-use libc::STDOUT_FILENO;
 use settings::Settings;
+use std::io;
+use std::io::{Error, Write};
+use std::process::ExitCode;
 
-// What was read of the file, and whether reading it failed.
+// What was read of the file, and the error where reading it failed.
 #[derive(Drop)]
 struct Opened {
-    failed: bool,
+    failed: Option<Error>,
     read: Read,
 }
 
 // 4,096 bytes are read: what a longer text gets is decided by those (`read_by_start`, editions/proofs/Prefix.antt).
-fn open_settings() -> Opened
+fn open_settings<R: io::Read>(file: &mut Option<R>) -> Opened
     ensures { ReadOfSome result.read }
 {
     let mut text = [0u8; 4096];
-    let file = os::open_read(b"board.set");
     let got = files::read_piece(file, &mut text);
     let n = got.count;
     let read = editions::read_text(&text[..n]);
     Opened {
         failed: got.failed,
-        read: read,
+        read,
     }
 }
 
@@ -39,20 +42,20 @@ fn lay_text(s: Settings, text: &mut [u8]) -> usize
     editions::text_length(s)
 }
 
-fn print_text(s: Settings)
+fn print_text<W: Write>(out: &mut W, s: Settings) -> io::Result<()>
     requires { Upgrading s }
 {
     let mut text = [0u8; 4096];
     let n = lay_text(s, &mut text);
-    ending::finish(io::write_all(STDOUT_FILENO, &text[..n]));
+    out.write_all(&text[..n])
 }
 
-fn main() {
-    let opened = open_settings();
+fn main(rt: HostRuntime) -> ExitCode {
+    let mut file = files::open(&rt, "board.set");
+    let opened = open_settings(&mut file);
     let read = opened.read;
-    let a = read.answer;
-    if ending::is_over(b"board.set", opened.failed, a) {
-        return;
+    if ending::is_over(&rt, "board.set", opened.failed, read.answer) {
+        return ExitCode::FAILURE;
     }
-    print_text(read.settings);
+    ending::finish(&rt, print_text(&mut io::writer(&rt), read.settings))
 }

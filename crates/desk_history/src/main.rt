@@ -1,6 +1,8 @@
 // The status history of one input: reads `board.set` and `run.rec` of the folder that it is run in, follows the input that its argument
 // names through the log, and writes the changes that the store retains, or the number of the first refusal.
-ghost use Rattle.std.specs.Prelude.{◌≡◌, true, false, ◌≤◌, length, take};
+#![tactic(auto)]
+
+ghost use Rattle.std.specs.Prelude.{◌≡◌, true, false, ◌≤◌, length, take, is_some};
 ghost use Rattle.answer.specs.Told.{told, succeeded};
 ghost use Rattle.history.specs.Store.{sound_store};
 ghost use Rattle.board.specs.Sound.{sound_board};
@@ -11,14 +13,20 @@ use answer::Answer;
 use beside::LAST_INPUT;
 use board::Board;
 use history::Store;
-use libc::STDOUT_FILENO;
 use shell::{PIECE, Step};
+use std::env::FillError;
+use std::io;
+use std::io::{Error, ErrorKind, Read, Write};
+use std::process::ExitCode;
+use std::rt::{Env, Files};
 use text::{Line, Range};
 
-// What going through the log gives: whether reading it failed, its answer, and the store.
-#[derive(Drop)]
+const USAGE: &str = "usage: desk_history INPUT\n";
+
+// What going through the log gives: the error where reading it failed, its answer, and the store.
+#[derive(Clone, Copy)]
 struct Pass {
-    failed: bool,
+    failed: Option<Error>,
     answer: Answer,
     store: Store,
 }
@@ -32,52 +40,42 @@ fn kept_after(
     piece: &[u8],
     rows: &[u8],
 ) -> Store
-    requires { (step.got.failed ≡ false → succeeded (told step.ran.answer) ≡ true → Through board piece.now rows.now) × (sound_store store ≡ true) × (input ≤ 40) }
-    ensures { (result ≡ kept_after input board step.got.failed (told step.ran.answer) piece.now store) × (sound_store result ≡ true) }
+    requires { (is_some step.got.failed ≡ false → succeeded (told step.ran.answer) ≡ true → Through board piece.now rows.now) × (sound_store store ≡ true) × (input ≤ 40) }
+    ensures { (result ≡ kept_after input board (is_some step.got.failed) (told step.ran.answer) piece.now store) × (sound_store result ≡ true) }
 {
-    let got = step.got;
-    if got.failed {
+    if step.got.failed.is_some() {
         return store;
     }
-    let ran = step.ran;
-    let a = ran.answer;
-    beside::keep_if(a, board, store, input, piece, rows)
+    beside::keep_if(step.ran.answer, board, store, input, piece, rows)
 }
 
-// Follows the input through the log. No file is as long as the budget: it shows that the loop ends.
-fn go_through(fresh: Board, input: usize) -> Pass
+// Follows the input through the log. No file has as many pieces as the loop has turns.
+fn go_through<R: Read>(log: &mut Option<R>, fresh: Board, input: usize) -> Pass
     requires { (sound_board fresh ≡ true) × (input ≤ 40) }
     ensures { FollowedSomeLog input fresh result.answer result.store }
 {
-    let log = os::open_read(b"run.rec");
     let mut piece = [0u8; PIECE];
     let mut rows = [0u8; PIECE / 2];
     let mut board = fresh;
     let mut store = Store::fresh();
-    let mut budget: u64 = 9223372036854775807;
-    while 0 < budget {
+    for _ in 0..u64::MAX {
         let step = shell::run_piece(board, log, &mut piece, &mut rows);
-        let got = step.got;
-        let n = got.count;
+        let n = step.got.count;
         let kept = kept_after(board, store, input, step, &piece[..n], &rows);
-        let ran = step.ran;
-        let a = ran.answer;
         if !step.is_full() {
             return Pass {
-                failed: got.failed,
-                answer: a,
+                failed: step.got.failed,
+                answer: step.ran.answer,
                 store: kept,
             };
         }
-        let after = ran.board;
-        board = after;
+        board = step.ran.board;
         store = kept;
-        budget -= 1;
     }
     Pass {
-        failed: true,
+        failed: Some(Error::from(ErrorKind::FileTooLarge)),
         answer: Answer::Done,
-        store: store,
+        store,
     }
 }
 
@@ -91,52 +89,51 @@ fn lay_history(store: Store, input: usize, out: &mut [u8]) -> usize
     store.read_length()
 }
 
-fn print_history(store: Store, input: usize)
+fn print_history<W: Write>(to: &mut W, store: Store, input: usize) -> io::Result<()>
     requires { Closing input store }
 {
     let mut out = [0u8; 7168];
     let n = lay_history(store, input, &mut out);
-    ending::finish(io::write_all(STDOUT_FILENO, &out[..n]));
+    to.write_all(&out[..n])
 }
 
 // The history of an input that there is.
-fn tell(fresh: Board, input: usize)
+fn tell<R: Files + Print + Eprint>(rt: &R, fresh: Board, input: usize) -> ExitCode
     requires { (OpenedBy fresh) × (input ≤ 40) }
 {
-    let pass = go_through(fresh, input);
-    let a = pass.answer;
-    if ending::is_over(b"run.rec", pass.failed, a) {
-        return;
+    let mut log = files::open(rt, "run.rec");
+    let pass = go_through(&mut log, fresh, input);
+    if ending::is_over(rt, "run.rec", pass.failed, pass.answer) {
+        return ExitCode::FAILURE;
     }
-    print_history(pass.store, input);
+    ending::finish(rt, print_history(&mut io::writer(rt), pass.store, input))
 }
 
-fn follow(input: usize) {
-    let opened = shell::open_board();
+fn follow<R: Files + Print + Eprint>(rt: &R, input: usize) -> ExitCode {
+    let mut text = files::open(rt, "board.set");
+    let opened = shell::open_board(&mut text);
     let made = opened.made;
-    let read = made.answer;
-    if ending::is_over(b"board.set", opened.failed, read) {
-        return;
+    if ending::is_over(rt, "board.set", opened.failed, made.answer) {
+        return ExitCode::FAILURE;
     }
     if LAST_INPUT < input {
-        ending::refuse(Answer::Range(input));
-        return;
+        return ending::refuse(rt, Answer::Range(input));
     }
-    tell(made.board, input);
+    tell(rt, made.board, input)
 }
 
 // What was read of the argument, and whether that is all of it.
-fn obey(line: Line, end: usize, only: bool) {
+fn obey<R: Files + Print + Eprint>(rt: &R, line: Line, end: usize, only: bool) -> ExitCode {
     match line {
         Line::Value(input, next) => {
             if plain::both(only, next == end) {
-                follow(input as usize)
+                follow(rt, input as usize)
             } else {
-                ending::misuse(b"usage: desk_history INPUT\n")
+                ending::misuse(rt, USAGE)
             }
         }
-        Line::Ill => ending::misuse(b"usage: desk_history INPUT\n"),
-        Line::Out => ending::misuse(b"usage: desk_history INPUT\n"),
+        Line::Ill => ending::misuse(rt, USAGE),
+        Line::Out => ending::misuse(rt, USAGE),
     }
 }
 
@@ -153,9 +150,12 @@ fn number_of(arg: &[u8], n: usize) -> Line {
     text::read_line(&arg[..n + 1], 0, b"", range)
 }
 
-// An argument that fills the buffer has no newline behind it, and more digits than any number.
-fn main() {
+// An argument that has no room before a newline has more digits than any number.
+fn main(rt: HostRuntime) -> ExitCode {
     let mut arg = [10u8; 16];
-    let n = os::arg(1, &mut arg);
-    obey(number_of(&arg, n), n + 1, os::arg_count() == 2);
+    let Ok(n) = rt.arg(1, &mut arg) else {
+        return ending::misuse(&rt, USAGE);
+    };
+    let only = matches!(rt.arg(2, &mut []), Err(FillError::NotPresent));
+    obey(&rt, number_of(&arg, n), n.saturating_add(1), only)
 }

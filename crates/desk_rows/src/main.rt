@@ -1,18 +1,22 @@
 // The decisions themselves: reads `board.set` and `run.rec` of the folder that it is run in, and writes the rows of the whole
 // log, or the number of the first refusal and no row. So the log goes through twice: once to see that it is accepted.
+#![tactic(auto)]
+
 ghost use Rattle.std.specs.Prelude.{◌≡◌, ◌+◌, ◌<◌, ◌≤◌, length};
 ghost use Rattle.shell.specs.Logs.{AnswerToSomeLog};
 
 use answer::Answer;
 use board::Board;
-use libc::STDOUT_FILENO;
 use shell::{PIECE, Step};
+use std::io;
+use std::io::{Error, ErrorKind, Read, Write};
+use std::process::ExitCode;
 
 // What one time through the log gives. Two times are held against each other by their bytes and the sum of their rows.
-#[derive(Drop)]
+#[derive(Clone, Copy)]
 struct Pass {
-    failed: bool,
-    written: bool,
+    failed: Option<Error>,
+    written: io::Result<()>,
     answer: Answer,
     bytes: u64,
     sum: u64,
@@ -46,40 +50,38 @@ fn summed(before: u64, rows: &[u8]) -> u64 {
     sum
 }
 
-fn write_if(wanted: bool, rows: &[u8]) -> bool {
+fn write_if<W: Write>(out: &mut W, wanted: bool, rows: &[u8]) -> io::Result<()> {
     if wanted {
-        return io::write_all(STDOUT_FILENO, rows);
+        return out.write_all(rows);
     }
-    true
+    Ok(())
 }
 
 impl Pass {
     // What a piece adds, its rows written where they are wanted. One that was not read, or is refused, adds nothing.
-    fn after(self, step: Step, rows: &[u8], writes: bool) -> Pass
+    fn after<W: Write>(self, step: Step, rows: &[u8], writes: bool, out: &mut W) -> Pass
         ensures { result.answer ≡ step.ran.answer }
     {
         let got = step.got;
-        let ran = step.ran;
-        let a = ran.answer;
-        if got.failed || !a.is_done() {
+        let a = step.ran.answer;
+        if got.failed.is_some() || !a.is_done() {
             return Pass {
                 failed: got.failed,
-                written: true,
+                written: Ok(()),
                 answer: a,
                 bytes: self.bytes,
                 sum: self.sum,
             };
         }
-        let n = got.count;
-        let bytes = std::num::wrapping_add_u64(self.bytes, n as u64);
+        let bytes = self.bytes.wrapping_add(got.count as u64);
         let sum = summed(self.sum, rows);
-        let written = write_if(writes, rows);
+        let written = write_if(out, writes, rows);
         Pass {
-            failed: false,
-            written: written,
+            failed: None,
+            written,
             answer: a,
-            bytes: bytes,
-            sum: sum,
+            bytes,
+            sum,
         }
     }
 
@@ -90,60 +92,62 @@ impl Pass {
     }
 }
 
-// Runs the log, and writes its rows where they are wanted. No file is as long as the budget: it shows that the loop ends.
-fn go_through(fresh: Board, writes: bool) -> Pass
+// Runs the log, and writes its rows where they are wanted. No file has as many pieces as the loop has turns.
+fn go_through<R: Read, W: Write>(
+    log: &mut Option<R>,
+    fresh: Board,
+    writes: bool,
+    out: &mut W,
+) -> Pass
     ensures { AnswerToSomeLog fresh result.answer }
 {
-    let log = os::open_read(b"run.rec");
     let mut piece = [0u8; PIECE];
     let mut rows = [0u8; PIECE / 2];
     let mut board = fresh;
     let unread = Pass {
-        failed: true,
-        written: true,
+        failed: Some(Error::from(ErrorKind::FileTooLarge)),
+        written: Ok(()),
         answer: Answer::Done,
         bytes: 0,
         sum: 0,
     };
     let mut pass = unread;
-    let mut budget: u64 = 9223372036854775807;
-    while 0 < budget {
+    for _ in 0..u64::MAX {
         let step = shell::run_piece(board, log, &mut piece, &mut rows);
-        let got = step.got;
-        let n = got.count;
-        let next = pass.after(step, &rows[..n / 2], writes);
-        pass = next;
-        if !pass.written || !step.is_full() {
+        let n = step.got.count;
+        pass = pass.after(step, &rows[..n / 2], writes, out);
+        if pass.written.is_err() || !step.is_full() {
             return pass;
         }
-        let ran = step.ran;
-        let after = ran.board;
-        board = after;
-        budget -= 1;
+        board = step.ran.board;
     }
     unread
 }
 
-fn main() {
-    let opened = shell::open_board();
+// The log stays open while it is opened again, so that one can see from outside how far each reading is (tools/progress).
+fn main(rt: HostRuntime) -> ExitCode {
+    let mut text = files::open(&rt, "board.set");
+    let opened = shell::open_board(&mut text);
     let made = opened.made;
-    let read = made.answer;
-    if ending::is_over(b"board.set", opened.failed, read) {
-        return;
+    if ending::is_over(&rt, "board.set", opened.failed, made.answer) {
+        return ExitCode::FAILURE;
     }
-    let first = go_through(made.board, false);
-    let accepted = first.answer;
-    if ending::is_over(b"run.rec", first.failed, accepted) {
-        return;
+    let mut out = io::writer(&rt);
+    let mut log = files::open(&rt, "run.rec");
+    let first = go_through(&mut log, made.board, false, &mut out);
+    if ending::is_over(&rt, "run.rec", first.failed, first.answer) {
+        return ExitCode::FAILURE;
     }
-    let second = go_through(made.board, true);
-    if second.failed {
-        ending::stop(b"run.rec");
-    } else if !second.written {
-        ending::finish(false);
-    } else if first.is_same(second) {
-        ending::finish(true);
-    } else {
-        ending::complain(b"run.rec: changed between its two readings: the rows are of no use\n");
+    let mut again = files::open(&rt, "run.rec");
+    let second = go_through(&mut again, made.board, true, &mut out);
+    if let Some(error) = second.failed {
+        return ending::stop(&rt, "run.rec", error);
     }
+    if second.written.is_err() || first.is_same(second) {
+        return ending::finish(&rt, second.written);
+    }
+    ending::complain(
+        &rt,
+        "run.rec: changed between its two readings: the rows are of no use\n",
+    )
 }

@@ -1,10 +1,17 @@
 // Salvages a log: reads `run.rec` of the folder that it is run in, of any length, one piece at a time, and writes `salvaged.rec` and
 // `changes.txt` beside it, each under another name until both are whole. It prints nothing, and never writes `run.rec`.
+#![tactic(auto)]
+
 ghost use Rattle.std.specs.Prelude.{◌≤◌, length};
 ghost use Rattle.desk_salvage.specs.Piece.{PieceDone};
 
 use files::read_piece;
 use salvage::{Salvaged, salvage};
+use std::fs::{OpenFile, OpenOptions};
+use std::io::{Error, ErrorKind, Read, Write};
+use std::process::ExitCode;
+use std::rt::Files;
+use std::{fs, io};
 
 // The bytes of 256 records, how many those are, and the room for their changes, 1,248 bytes for each.
 const PIECE: usize = 6144;
@@ -14,40 +21,48 @@ const RECORDS: u64 = 256;
 const LIST: usize = 319488;
 
 // The names under which the files are written.
-const LOG_PART: [u8; 17] = *b"salvaged.rec.part";
+const LOG_PART: &str = "salvaged.rec.part";
 
-const LIST_PART: [u8; 16] = *b"changes.txt.part";
+const LIST_PART: &str = "changes.txt.part";
 
 // The files under those names, open for writing.
 #[derive(Drop)]
-struct Parts {
-    log: i32,
-    list: i32,
+struct Parts<F> {
+    log: F,
+    list: F,
 }
 
-// Says what went wrong, by its name and the last error, and hands the verdict on.
-fn or_stop(went: bool, what: &[u8]) -> bool {
-    if !went {
-        ending::stop(what);
-    }
-    went
+// Why a salvage ended before its files were whole.
+#[derive(Clone, Copy)]
+enum Stop {
+    // An error of the system's, after the name of the file that it was about.
+    At(&'static str, Error),
+    // The log has more records than there are numbers.
+    Numbers,
+}
+
+// An error is told by the file's name.
+fn or_stop<T>(went: io::Result<T>, what: &'static str) -> Result<T, Stop> {
+    went.map_err(|error| Stop::At(what, error))
 }
 
 // A new file, whatever had the name before: so a link to another file is not followed.
-fn open_part(name: &[u8]) -> i32 {
-    os::unlink(name);
-    let file = os::create(name);
-    or_stop(0 <= file, name);
-    file
+fn open_part<R: Files>(rt: &R, name: &'static str) -> Result<R::File, Stop> {
+    let _ = fs::remove_file(rt, name);
+    let made = OpenOptions::new()
+        .write(true)
+        .create_new(true)
+        .open(rt, name);
+    or_stop(made, name)
 }
 
-fn write_part(file: i32, bytes: &[u8], name: &[u8]) -> bool {
-    or_stop(io::write_all(file, bytes), name)
+fn write_part<F: Write>(file: &mut F, bytes: &[u8], name: &'static str) -> Result<(), Stop> {
+    or_stop(file.write_all(bytes), name)
 }
 
 // A file is whole once the disk has it.
-fn close_part(file: i32, name: &[u8]) -> bool {
-    or_stop(libc::fsync(file) == 0, name) && or_stop(libc::close(file) == 0, name)
+fn close_part<F: OpenFile + Drop>(file: F, name: &'static str) -> Result<(), Stop> {
+    or_stop(file.sync_all(), name)
 }
 
 // A piece salvaged at the front of buffers that have room for every piece.
@@ -58,78 +73,69 @@ fn salvage_piece(first: u64, piece: &[u8], salvaged: &mut [u8], changes: &mut [u
     salvage(first, piece, salvaged, changes)
 }
 
-// Salvages the log into the parts, and answers whether it went through. No file is as long as the budget: it shows that the loop ends.
-fn go_through(log: i32, parts: Parts) -> bool {
+// Salvages the log into the parts. No file has as many pieces as the loop has turns.
+fn go_through<R: Read, F: Write>(log: &mut Option<R>, parts: &mut Parts<F>) -> Result<(), Stop> {
     let mut piece = [0u8; PIECE];
     let mut salvaged = [0u8; PIECE];
     let mut changes = [0u8; LIST];
     let mut first: u64 = 0;
-    let mut budget: u64 = 9223372036854775807;
-    while 0 < budget {
+    for _ in 0..u64::MAX / RECORDS {
         let got = read_piece(log, &mut piece);
         let n = got.count;
-        if !or_stop(!got.failed, b"run.rec") {
-            return false;
+        if let Some(error) = got.failed {
+            return Err(Stop::At("run.rec", error));
         }
         let done = salvage_piece(first, &piece[..n], &mut salvaged, &mut changes);
-        let a = done.answer;
-        if !a.is_done() {
-            ending::complain(b"run.rec: more records than there are numbers\n");
-            return false;
+        if !done.answer.is_done() {
+            return Err(Stop::Numbers);
         }
-        if !write_part(parts.log, &salvaged[..done.log], &LOG_PART) {
-            return false;
-        }
-        if !write_part(parts.list, &changes[..done.list], &LIST_PART) {
-            return false;
-        }
+        write_part(&mut parts.log, &salvaged[..done.log], LOG_PART)?;
+        write_part(&mut parts.list, &changes[..done.list], LIST_PART)?;
         if n < PIECE {
-            return true;
+            return Ok(());
         }
         first += RECORDS;
-        budget -= 1;
     }
-    false
+    Err(Stop::Numbers)
 }
 
 // Gives the parts their names, the log last; one without the other is taken back.
-fn name_parts() -> bool {
-    if !or_stop(os::rename(&LIST_PART, b"changes.txt") == 0, b"changes.txt") {
-        return false;
+fn name_parts<R: Files>(rt: &R) -> Result<(), Stop> {
+    or_stop(fs::rename(rt, LIST_PART, "changes.txt"), "changes.txt")?;
+    let named = or_stop(fs::rename(rt, LOG_PART, "salvaged.rec"), "salvaged.rec");
+    if named.is_err() {
+        let _ = fs::remove_file(rt, "changes.txt");
     }
-    if !or_stop(os::rename(&LOG_PART, b"salvaged.rec") == 0, b"salvaged.rec") {
-        os::unlink(b"changes.txt");
-        return false;
-    }
-    true
+    named
 }
 
-fn salvage_to(parts: Parts) -> bool {
-    go_through(os::open_read(b"run.rec"), parts)
-        && close_part(parts.log, &LOG_PART)
-        && close_part(parts.list, &LIST_PART)
-        && name_parts()
+fn salvage_to<R: Files>(rt: &R, mut parts: Parts<R::File>) -> Result<(), Stop> {
+    let mut log = files::open(rt, "run.rec");
+    go_through(&mut log, &mut parts)?;
+    let Parts { log, list } = parts;
+    close_part(log, LOG_PART)?;
+    close_part(list, LIST_PART)?;
+    name_parts(rt)
 }
 
 // Both parts are opened before anything is read.
-fn salvage_files() -> bool {
-    let log = open_part(&LOG_PART);
-    if log < 0 {
-        return false;
-    }
-    let list = open_part(&LIST_PART);
-    0 <= list
-        && salvage_to(Parts {
-            log: log,
-            list: list,
-        })
+fn salvage_files<R: Files>(rt: &R) -> Result<(), Stop> {
+    let log = open_part(rt, LOG_PART)?;
+    let list = open_part(rt, LIST_PART)?;
+    salvage_to(rt, Parts { log, list })
 }
 
-fn main() {
-    if salvage_files() {
-        ending::finish(true);
-        return;
+fn main(rt: HostRuntime) -> ExitCode {
+    let ended = salvage_files(&rt);
+    if ended.is_err() {
+        let _ = fs::remove_file(&rt, LOG_PART);
+        let _ = fs::remove_file(&rt, LIST_PART);
     }
-    os::unlink(&LOG_PART);
-    os::unlink(&LIST_PART);
+    match ended {
+        Ok(()) => ExitCode::SUCCESS,
+        Err(Stop::At(what, error)) => ending::stop(&rt, what, error),
+        Err(Stop::Numbers) => {
+            ending::complain(&rt, "run.rec: more records than there are numbers\n")
+        }
+    }
 }

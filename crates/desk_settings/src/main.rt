@@ -1,11 +1,13 @@
 // Writes the standard settings text, in the newest edition, to standard output: the way to start a `board.set`.
-use libc::STDOUT_FILENO;
-use settings::Settings;
+#![tactic(auto)]
 
-fn main() {
+use settings::Settings;
+use std::process::ExitCode;
+
+fn main(rt: HostRuntime) -> ExitCode {
     let mut text = [0u8; 4096];
     let s = Settings::standard();
     editions::write_text(s, &mut text);
     let n = editions::text_length(s);
-    ending::finish(io::write_all(STDOUT_FILENO, &text[..n]));
+    ending::finish(&rt, rt.write_all(&text[..n]))
 }

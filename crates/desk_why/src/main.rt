@@ -1,6 +1,8 @@
 // Why a bench is refused: reads `board.set` and `run.rec` of the folder that it is run in, and prints the desk's answer as lines: its
 // number, what it carries, and the block of the log that is refused.
-ghost use Rattle.std.specs.Prelude.{◌≡◌, ◌+◌, ◌≤◌, length};
+#![tactic(auto)]
+
+ghost use Rattle.std.specs.Prelude.{◌≡◌, ◌+◌, ◌≤◌, length, is_some};
 ghost use Rattle.answer.specs.Told.{told};
 ghost use Rattle.text.specs.Bytes.{put};
 ghost use Rattle.reason.specs.Support.Room.{answer_most, block_most};
@@ -8,68 +10,59 @@ ghost use Rattle.desk_why.specs.Why.{why_text, goes_on, OpenedBy, FoundInSomeLog
 
 use answer::Answer;
 use board::Board;
-use libc::STDOUT_FILENO;
 use shell::Step;
+use std::io;
+use std::io::{Error, ErrorKind, Read, Write};
+use std::process::ExitCode;
 
 // The bytes of a block of 64 records.
 const BLOCK: usize = 1536;
 
-// No file has as many blocks: it shows that the loop ends.
-const BUDGET: u64 = 9223372036854775807;
-
-// What going through the log gives: whether reading it failed, its answer, and how many blocks were run before the last.
-#[derive(Drop)]
+// What going through the log gives: the error where reading it failed, its answer, and how many blocks were run before the last.
+#[derive(Clone, Copy)]
 struct Found {
-    failed: bool,
+    failed: Option<Error>,
     answer: Answer,
     block: u64,
 }
 
 // Whether more of the log may follow: the block was read, is full and was accepted.
 fn goes_on(step: Step) -> bool
-    ensures { result ≡ goes_on step.got.failed step.got.«count» (told step.ran.answer) }
+    ensures { result ≡ goes_on (is_some step.got.failed) step.got.«count» (told step.ran.answer) }
 {
     let got = step.got;
-    if got.failed {
+    if got.failed.is_some() {
         return false;
     }
     if got.count < BLOCK {
         return false;
     }
-    let ran = step.ran;
-    let a = ran.answer;
-    a.is_done()
+    step.ran.answer.is_done()
 }
 
-// Runs the log one block at a time, so that the blocks before a refusal are counted.
-fn find(fresh: Board) -> Found
+// Runs the log one block at a time, so that the blocks before a refusal are counted. No file has as many blocks as the loop has turns.
+fn find<R: Read>(log: &mut Option<R>, fresh: Board) -> Found
     ensures { FoundInSomeLog fresh result.answer result.block }
 {
-    let log = os::open_read(b"run.rec");
     let mut piece = [0u8; BLOCK];
     let mut rows = [0u8; BLOCK / 2];
     let mut board = fresh;
-    let mut block: u64 = 0;
-    while block < BUDGET {
+    for block in 0..u64::MAX {
         let step = shell::run_piece(board, log, &mut piece, &mut rows);
         let ran = step.ran;
         if !goes_on(step) {
-            let got = step.got;
-            let a = ran.answer;
             return Found {
-                failed: got.failed,
-                answer: a,
-                block: block,
+                failed: step.got.failed,
+                answer: ran.answer,
+                block,
             };
         }
-        let after = ran.board;
-        board = after;
-        block += 1;
+        board = ran.board;
     }
     Found {
-        failed: true,
+        failed: Some(Error::from(ErrorKind::FileTooLarge)),
         answer: Answer::Done,
-        block: block,
+        block: u64::MAX,
     }
 }
 
@@ -86,38 +79,40 @@ fn lay_why(a: Answer, refuses: bool, block: u64, text: &mut [u8]) -> usize
 }
 
 // What is printed for some text and some log.
-fn print_why(a: Answer, refuses: bool, block: u64)
+fn print_why<W: Write>(out: &mut W, a: Answer, refuses: bool, block: u64) -> io::Result<()>
     requires { OfSomeFiles (why_text (told a) refuses block) }
 {
     let mut text = [0u8; 128];
     let n = lay_why(a, refuses, block, &mut text);
-    ending::finish(io::write_all(STDOUT_FILENO, &text[..n]));
+    out.write_all(&text[..n])
 }
 
 // The answer to the log, over the board of a text that is accepted.
-fn tell_log(fresh: Board)
+fn tell_log<F: Read, R: Print + Eprint>(rt: &R, log: &mut Option<F>, fresh: Board) -> ExitCode
     requires { OpenedBy fresh }
 {
-    let found = find(fresh);
-    if found.failed {
-        ending::stop(b"run.rec");
-        return;
+    let found = find(log, fresh);
+    if let Some(error) = found.failed {
+        return ending::stop(rt, "run.rec", error);
     }
     let a = found.answer;
-    print_why(a, !a.is_done(), found.block);
+    ending::finish(
+        rt,
+        print_why(&mut io::writer(rt), a, !a.is_done(), found.block),
+    )
 }
 
-fn main() {
-    let opened = shell::open_board();
-    if opened.failed {
-        ending::stop(b"board.set");
-        return;
+fn main(rt: HostRuntime) -> ExitCode {
+    let mut text = files::open(&rt, "board.set");
+    let opened = shell::open_board(&mut text);
+    if let Some(error) = opened.failed {
+        return ending::stop(&rt, "board.set", error);
     }
     let made = opened.made;
     let read = made.answer;
-    if read.is_done() {
-        tell_log(made.board);
-    } else {
-        print_why(read, false, 0);
+    if !read.is_done() {
+        return ending::finish(&rt, print_why(&mut io::writer(&rt), read, false, 0));
     }
+    let mut log = files::open(&rt, "run.rec");
+    tell_log(&rt, &mut log, made.board)
 }

@@ -1,68 +1,95 @@
-// How a program ends: what it prints of a refusal or an error, and its status, 0, 1 or 2. The language has no exit status, so a
-// program writes the digit to a descriptor of its own, from which tools/built takes it.
-ghost use Rattle.std.specs.Prelude.{◌≡◌, Bool};
-ghost use Rattle.answer.specs.Told.{told, succeeded};
+// How a program ends: what it prints of a refusal or an error, and its status, 0, 1 or 2.
+#![tactic(auto)]
+
+ghost use Rattle.std.specs.Prelude.{◌≡◌, is_ok, is_some};
+ghost use Rattle.std.specs.Process.{exit_status};
+ghost use Rattle.laws.specs.Base.{if};
+ghost use Rattle.answer.specs.Told.{told};
 ghost use Rattle.ending.specs.Ends.{over};
 
 use answer::Answer;
-use libc::{STDERR_FILENO, STDOUT_FILENO};
+use std::io::{Cursor, Error, Write};
+use std::process::ExitCode;
+use std::{fmt, io, str};
 
-// So high that no shell has it open for something else. Where it is not open, a status is told to nobody.
-const STATUS_FILENO: i32 = 99;
+// An error in the system's own words: std has the error's number behind them.
+#[derive(Clone, Copy)]
+struct Words(Error);
 
-// The status of a program that has written all, or the error that kept it from that. No contract can say what is printed.
-pub fn finish(written: bool) {
-    if written {
-        io::write_all(STATUS_FILENO, b"0");
-    } else {
-        stop(b"standard output");
+impl fmt::Display for Words {
+    fn fmt<W: fmt::Write>(&self, f: &mut fmt::Formatter<W>) -> fmt::Result {
+        let error = self.0;
+        let mut line = Cursor::new([0u8; 128]);
+        let _ = write!(line, "{error}");
+        let bytes = line.into_inner();
+        let Ok(line) = str::from_utf8(&bytes) else {
+            return write!(f, "{error}");
+        };
+        let text = line.trim_end_matches('\0');
+        match text.split_once(" (os error ") {
+            Some((words, _)) => f.write_str(words),
+            None => f.write_str(text),
+        }
     }
 }
 
-// The last call's error, after what it was about. No contract can say what is printed.
-pub fn stop(what: &[u8]) {
-    os::fail(what);
-    io::write_all(STATUS_FILENO, b"1");
+// The status of a program that has written all, or the error that kept it from that. No contract can say what is printed.
+pub fn finish(rt: &impl Eprint, written: io::Result<()>) -> ExitCode
+    ensures { exit_status result ≡ if (is_ok written) 0 1 }
+{
+    match written {
+        Ok(()) => ExitCode::SUCCESS,
+        Err(error) => stop(rt, "standard output", error),
+    }
+}
+
+// An error of the system's, after what it was about. No contract can say what is printed.
+pub fn stop(rt: &impl Eprint, what: &str, error: Error) -> ExitCode
+    ensures { exit_status result ≡ 1 }
+{
+    let words = Words(error);
+    let _ = eprintln!(rt; "{what}: {words}");
+    ExitCode::FAILURE
 }
 
 // An error that no call of the system has told. No contract can say what is printed.
-pub fn complain(line: &[u8]) {
-    io::write_all(STDERR_FILENO, line);
-    io::write_all(STATUS_FILENO, b"1");
+pub fn complain(rt: &impl Eprint, line: &str) -> ExitCode
+    ensures { exit_status result ≡ 1 }
+{
+    let _ = rt.eprint(line);
+    ExitCode::FAILURE
 }
 
 // Words that a program was called with and cannot use. No contract can say what is printed.
-pub fn misuse(line: &[u8]) {
-    io::write_all(STDERR_FILENO, line);
-    io::write_all(STATUS_FILENO, b"2");
-}
-
-fn refusal_line(a: Answer) -> bool {
-    io::write_all(STDOUT_FILENO, b"refused=")
-        && io::print_decimal(STDOUT_FILENO, a.number())
-        && io::write_all(STDOUT_FILENO, b"\n")
+pub fn misuse(rt: &impl Eprint, line: &str) -> ExitCode
+    ensures { exit_status result ≡ 2 }
+{
+    let _ = rt.eprint(line);
+    ExitCode::from(2)
 }
 
 // No contract can say what is printed.
-pub fn refuse(a: Answer) {
-    if refusal_line(a) {
-        io::write_all(STATUS_FILENO, b"1");
-    } else {
-        stop(b"standard output");
+pub fn refuse(rt: &(impl Print + Eprint), a: Answer) -> ExitCode
+    ensures { exit_status result ≡ 1 }
+{
+    let number = a.number();
+    match println!(rt; "refused={number}") {
+        Ok(()) => ExitCode::FAILURE,
+        Err(error) => stop(rt, "standard output", error),
     }
 }
 
-// Whether a program is over after reading a file, of which it has then said why and told its status.
-pub fn is_over(file: &[u8], failed: bool, a: Answer) -> bool
-    ensures { result ≡ over failed (told a) }
+// Whether a program is over after reading a file, of which it has then said why.
+pub fn is_over(rt: &(impl Print + Eprint), file: &str, failed: Option<Error>, a: Answer) -> bool
+    ensures { result ≡ over (is_some failed) (told a) }
 {
-    if failed {
-        stop(file);
+    if let Some(error) = failed {
+        stop(rt, file, error);
         return true;
     }
     if a.is_done() {
         return false;
     }
-    refuse(a);
+    refuse(rt, a);
     true
 }

@@ -3,19 +3,22 @@
 // record, a crossing having every code 8. `z at v more step` sets a byte and as many more after it, each by a step higher; `l n` sets the
 // log's length. `f n` numbers its records from n, `g n` from n below the greatest number. `s log list` salvages it into buffers of
 // these lengths; `p at` numbers it from 0 and salvages it in two pieces, cut there, into one pair of buffers.
+#![tactic(auto)]
+
 ghost use Rattle.std.specs.Prelude.{◌<◌, ◌≤◌, length};
 
 use cases::{
-    Words, after, at_most, byte, end_line, line_end, record_of, say, say_answer, say_comment,
-    say_number, say_untouched, say_written, words_of,
+    Words, after, at_most, byte, end_line, line_end, read_input, record_of, say, say_answer,
+    say_comment, say_number, say_untouched, say_written, words_of,
 };
-use libc::STDIN_FILENO;
 use salvage::{Salvaged, salvage};
+use std::io;
+use std::io::Write;
 
 const GREATEST: u64 = 18446744073709551615;
 
 // The log that the lines have made, the first `long` bytes, and the number of its first record.
-#[derive(Drop)]
+#[derive(Clone, Copy)]
 struct Log {
     bytes: [u8; 240],
     long: usize,
@@ -44,7 +47,7 @@ impl Log {
         let mut bytes = self.bytes;
         text::put_bytes(&mut bytes, at, &rec);
         Log {
-            bytes: bytes,
+            bytes,
             long: at + 24,
             first: self.first,
         }
@@ -88,68 +91,75 @@ impl Log {
     }
 }
 
-fn say_gap(n: usize) {
+fn say_gap<W: Write>(out: &mut W, n: usize) -> io::Result<()> {
     if 0 < n {
-        say(b" ");
+        say(out, b" ")?;
     }
+    Ok(())
 }
 
 // A `/` stands for a newline; no list has one of its own.
-fn say_letter(b: u8) {
+fn say_letter<W: Write>(out: &mut W, b: u8) -> io::Result<()> {
     let shown = [if b == 10 { b'/' } else { b }];
-    say(&shown);
+    say(out, &shown)
 }
 
 // The text before a place, in one line.
-fn say_text(text: &[u8], end: usize)
+fn say_text<W: Write>(out: &mut W, text: &[u8], end: usize) -> io::Result<()>
     requires { end ≤ length text.now }
 {
-    say_gap(end);
-    let mut k = 0;
-    while k < end {
-        say_letter(text[k]);
-        k += 1;
+    say_gap(out, end)?;
+    for k in 0..end {
+        say_letter(out, text[k])?;
     }
+    Ok(())
 }
 
 // Whether the list's buffer, which held 170 everywhere, does after what was written.
-fn say_later(changes: &[u8], done: bool, end: usize)
+fn say_later<W: Write>(out: &mut W, changes: &[u8], done: bool, end: usize) -> io::Result<()>
     requires { end ≤ length changes.now }
 {
     if done {
-        say_untouched(b", later bytes", changes, end);
+        say_untouched(out, b", later bytes", changes, end)?;
     } else {
-        say_untouched(b", buffer", changes, end);
+        say_untouched(out, b", buffer", changes, end)?;
     }
-    end_line();
+    end_line(out)
 }
 
 // What came back, and the buffers after it.
-fn say_salvaged(r: Salvaged, salvaged: &[u8], changes: &[u8]) {
+fn say_salvaged<W: Write>(
+    out: &mut W,
+    r: Salvaged,
+    salvaged: &[u8],
+    changes: &[u8],
+) -> io::Result<()> {
     let a = r.answer;
     let done = a.is_done();
-    say_answer(b"answer ", a);
-    end_line();
-    say_number(b"  log ", r.log as u64);
-    say_written(
-        b", buffer",
-        salvaged,
-        done,
-        at_most(r.log as u64, salvaged.len()),
-        24,
-    );
+    say_answer(out, b"answer ", a)?;
+    end_line(out)?;
+    say_number(out, b"  log ", r.log as u64)?;
+    let written = at_most(r.log as u64, salvaged.len());
+    say_written(out, b", buffer", salvaged, done, written, 24)?;
     let end = at_most(r.list as u64, changes.len());
-    say_number(b"  list ", r.list as u64);
-    say_text(changes, end);
-    say_later(changes, done, end);
+    say_number(out, b"  list ", r.list as u64)?;
+    say_text(out, changes, end)?;
+    say_later(out, changes, done, end)
 }
 
 // Salvages into the first bytes of the buffers.
-fn salvage_whole(first: u64, log: &[u8], salvaged: &mut [u8], changes: &mut [u8], w: Words) {
+fn salvage_whole<W: Write>(
+    out: &mut W,
+    first: u64,
+    log: &[u8],
+    salvaged: &mut [u8],
+    changes: &mut [u8],
+    w: Words,
+) -> io::Result<()> {
     let room = at_most(w.a, salvaged.len());
     let list = at_most(w.b, changes.len());
     let r = salvage(first, log, &mut salvaged[..room], &mut changes[..list]);
-    say_salvaged(r, salvaged, changes);
+    say_salvaged(out, r, salvaged, changes)
 }
 
 // Where bytes that were written from a place on end, in a buffer of this length.
@@ -160,7 +170,13 @@ fn end_of(at: usize, wrote: usize, long: usize) -> usize
 }
 
 // The second piece is numbered on, and written behind what the first one wrote; its answer is told.
-fn salvage_pieces(log: &[u8], salvaged: &mut [u8], changes: &mut [u8], w: Words) {
+fn salvage_pieces<W: Write>(
+    out: &mut W,
+    log: &[u8],
+    salvaged: &mut [u8],
+    changes: &mut [u8],
+    w: Words,
+) -> io::Result<()> {
     let cut = at_most(w.a, log.len());
     let a = salvage(0, &log[..cut], salvaged, changes);
     let m = at_most(a.log as u64, salvaged.len());
@@ -173,46 +189,54 @@ fn salvage_pieces(log: &[u8], salvaged: &mut [u8], changes: &mut [u8], w: Words)
     );
     let answer = b.answer;
     let both = Salvaged {
-        answer: answer,
+        answer,
         log: end_of(m, b.log, salvaged.len()),
         list: end_of(k, b.list, changes.len()),
     };
-    say_salvaged(both, salvaged, changes);
+    say_salvaged(out, both, salvaged, changes)
 }
 
-fn run_into(first: u64, log: &[u8], salvaged: &mut [u8], changes: &mut [u8], w: Words) {
+fn run_into<W: Write>(
+    out: &mut W,
+    first: u64,
+    log: &[u8],
+    salvaged: &mut [u8],
+    changes: &mut [u8],
+    w: Words,
+) -> io::Result<()> {
     let letter = w.letter;
     match letter {
-        b's' => salvage_whole(first, log, salvaged, changes, w),
-        b'p' => salvage_pieces(log, salvaged, changes, w),
-        _ => {}
+        b's' => salvage_whole(out, first, log, salvaged, changes, w),
+        b'p' => salvage_pieces(out, log, salvaged, changes, w),
+        _ => Ok(()),
     }
 }
 
-fn run(log: Log, w: Words) {
+fn run<W: Write>(out: &mut W, log: Log, w: Words) -> io::Result<()> {
     // No line makes the log longer than its buffer; the bound is taken again for the proof.
     let n = at_most(log.long as u64, 240);
     let bytes = log.bytes;
     let mut salvaged = [170u8; 240];
     let mut changes = [170u8; 1280];
-    run_into(log.first, &bytes[..n], &mut salvaged, &mut changes, w);
+    run_into(out, log.first, &bytes[..n], &mut salvaged, &mut changes, w)
 }
 
-fn obey_all(input: &[u8]) {
+fn obey_all<W: Write>(out: &mut W, input: &[u8]) -> io::Result<()> {
     let mut log = Log::empty();
     let mut at = 0;
     while at < input.len() {
         let end = line_end(input, at);
         let w = words_of(&input[at..end]);
-        say_comment(&input[at..end], w.letter);
+        say_comment(out, &input[at..end], w.letter)?;
         log = log.obey(w);
-        run(log, w);
+        run(out, log, w)?;
         at = after(input, end);
     }
+    Ok(())
 }
 
-fn main() {
+fn main(rt: HostRuntime) -> io::Result<()> {
     let mut input = [0u8; 8192];
-    let n = io::read_full(STDIN_FILENO, &mut input);
-    obey_all(&input[..n]);
+    let n = read_input(rt.stdin(), &mut input)?;
+    obey_all(&mut io::writer(&rt), &input[..n])
 }

@@ -3,18 +3,21 @@
 // part of a text, and what is put in its place; the text is the first edition's where the name begins with a 1, the second's where it
 // begins with a 2, else the standard one. In all of these a `/` stands for a newline and a `^` for a carriage return. An accepted text
 // is written back, and what that reads as is told too.
+#![tactic(auto)]
+
 ghost use Rattle.std.specs.Prelude.{◌≤◌, length};
 
 use answer::Answer;
-use cases::{after, line_end, say, say_answer, say_number};
-use libc::STDIN_FILENO;
+use cases::{after, end_line, line_end, read_input, say, say_answer, say_number};
 use settings::Settings;
+use std::io;
+use std::io::Write;
 
 // A line: the name of the case, and its answer.
-fn say_case(name: &[u8], a: Answer) {
-    say(name);
-    say_answer(b": ", a);
-    say(b"\n");
+fn say_case<W: Write>(to: &mut W, name: &[u8], a: Answer) -> io::Result<()> {
+    say(to, name)?;
+    say_answer(to, b": ", a)?;
+    end_line(to)
 }
 
 fn plain(b: u8) -> u8 {
@@ -31,26 +34,23 @@ fn plain(b: u8) -> u8 {
 fn decoded(part: &[u8], out: &mut [u8]) -> usize
     ensures { result ≤ length out.new }
 {
-    let mut i = 0;
-    while i < part.len() && i < out.len() {
+    let n = part.len().min(out.len());
+    for i in 0..n {
         out[i] = plain(part[i]);
-        i += 1;
     }
-    i
+    n
 }
 
 // Where the part first stands in the text, or the text's end.
 fn find(text: &[u8], part: &[u8]) -> usize
     ensures { result ≤ length text.now }
 {
-    let mut at = 0;
-    while at < text.len() {
+    for at in 0..text.len() {
         if text::starts_with(text, at, part) {
             return at;
         }
-        at += 1;
     }
-    at
+    text.len()
 }
 
 // Lays bytes into the buffer from a place on, where there is room, and answers the place after them.
@@ -77,71 +77,83 @@ fn replaced(text: &[u8], old: &[u8], new: &[u8], out: &mut [u8]) -> usize
     put(out, b, &text[at + old.len()..])
 }
 
-fn say_low_limits(s: Settings) {
+fn say_low_limits<W: Write>(to: &mut W, s: Settings) -> io::Result<()> {
     let rules = s.rules();
-    say_number(b", low limits ", rules.second.low as u64);
-    say_number(b" ", rules.third.low as u64);
-    say_number(b" ", rules.fourth.low as u64);
-    say(b"\n");
+    say_number(to, b", low limits ", rules.second.low as u64)?;
+    say_number(to, b" ", rules.third.low as u64)?;
+    say_number(to, b" ", rules.fourth.low as u64)?;
+    end_line(to)
 }
 
 // What the settings write, read back.
-fn say_back(s: Settings, out: &mut [u8]) {
+fn say_back<W: Write>(to: &mut W, s: Settings, out: &mut [u8]) -> io::Result<()> {
     editions::write_text(s, out);
     let n = editions::text_length(s);
     if out.len() < n {
-        return;
+        return Ok(());
     }
     let back = editions::read_text(&out[..n]);
     let a = back.answer;
-    say_answer(b"  read back: ", a);
-    say_low_limits(back.settings);
+    say_answer(to, b"  read back: ", a)?;
+    say_low_limits(to, back.settings)
 }
 
 // Reads a text with `new` for the first `old`. The buffer is lent, since a part of it is read.
-fn read_edited(name: &[u8], base: &[u8], old: &[u8], new: &[u8], text: &mut [u8]) {
+fn read_edited<W: Write>(
+    to: &mut W,
+    name: &[u8],
+    base: &[u8],
+    old: &[u8],
+    new: &[u8],
+    text: &mut [u8],
+) -> io::Result<()> {
     let m = replaced(base, old, new, text);
     let r = editions::read_text(&text[..m]);
     let a = r.answer;
-    say_case(name, a);
+    say_case(to, name, a)?;
     if a.is_done() {
-        say_back(r.settings, text);
+        say_back(to, r.settings, text)?;
     }
+    Ok(())
 }
 
-fn read_case(name: &[u8], base: &[u8], old: &[u8], new: &[u8]) {
-    let mut from = [0u8; 128];
-    let mut to = [0u8; 128];
+fn read_case<W: Write>(
+    to: &mut W,
+    name: &[u8],
+    base: &[u8],
+    old: &[u8],
+    new: &[u8],
+) -> io::Result<()> {
+    let mut was = [0u8; 128];
+    let mut is = [0u8; 128];
     let mut text = [0u8; 4096];
-    let n = decoded(old, &mut from);
-    let m = decoded(new, &mut to);
-    read_edited(name, base, &from[..n], &to[..m], &mut text);
+    let n = decoded(old, &mut was);
+    let m = decoded(new, &mut is);
+    read_edited(to, name, base, &was[..n], &is[..m], &mut text)
 }
 
 // The name begins with the number of an older edition.
-fn read_named(name: &[u8], old: &[u8], new: &[u8], first: &[u8], second: &[u8], newest: &[u8]) {
+fn read_named<W: Write>(
+    to: &mut W,
+    name: &[u8],
+    old: &[u8],
+    new: &[u8],
+    first: &[u8],
+    second: &[u8],
+    newest: &[u8],
+) -> io::Result<()> {
     if text::starts_with(name, 0, b"1 ") {
-        read_case(name, first, old, new);
-        return;
+        return read_case(to, name, first, old, new);
     }
     if text::starts_with(name, 0, b"2 ") {
-        read_case(name, second, old, new);
-        return;
+        return read_case(to, name, second, old, new);
     }
-    read_case(name, newest, old, new);
+    read_case(to, name, newest, old, new)
 }
 
 // How many bytes are other than 7, which no settings text has.
 fn changed(out: &[u8]) -> u64 {
-    let mut n: u64 = 0;
-    let mut i = 0;
-    while i < out.len() {
-        if out[i] != 7 {
-            n += 1;
-        }
-        i += 1;
-    }
-    n
+    out.iter().filter(|b| **b != 7).count() as u64
 }
 
 // The standard settings with another value on a line.
@@ -158,31 +170,50 @@ fn with(line: usize, value: u32) -> Settings {
 }
 
 // Writes settings into the first bytes of a buffer of sevens, and tells how many bytes changed.
-fn write_part(name: &[u8], s: Settings, out: &mut [u8], room: usize) {
+fn write_part<W: Write>(
+    to: &mut W,
+    name: &[u8],
+    s: Settings,
+    out: &mut [u8],
+    room: usize,
+) -> io::Result<()> {
     if out.len() < room {
-        return;
+        return Ok(());
     }
     let a = editions::write_text(s, &mut out[..room]);
-    say_case(name, a);
-    say_number(b"  bytes changed: ", changed(out));
-    say(b"\n");
+    say_case(to, name, a)?;
+    say_number(to, b"  bytes changed: ", changed(out))?;
+    end_line(to)
 }
 
 // Writes the standard settings with another value on a line.
-fn write_case(name: &[u8], line: usize, value: u32, room: usize) {
+fn write_case<W: Write>(
+    to: &mut W,
+    name: &[u8],
+    line: usize,
+    value: u32,
+    room: usize,
+) -> io::Result<()> {
     let mut out = [7u8; 4096];
     let s = with(line, value);
-    write_part(name, s, &mut out, room);
+    write_part(to, name, s, &mut out, room)
 }
 
 // Checks the standard settings with another value on a line.
-fn check_case(name: &[u8], line: usize, value: u32) {
+fn check_case<W: Write>(to: &mut W, name: &[u8], line: usize, value: u32) -> io::Result<()> {
     let s = with(line, value);
     let a = s.check();
-    say_case(name, a);
+    say_case(to, name, a)
 }
 
-fn read_cases(input: &[u8], from: usize, first: &[u8], second: &[u8], newest: &[u8])
+fn read_cases<W: Write>(
+    to: &mut W,
+    input: &[u8],
+    from: usize,
+    first: &[u8],
+    second: &[u8],
+    newest: &[u8],
+) -> io::Result<()>
     requires { from ≤ length input.now }
 {
     let mut at = from;
@@ -193,19 +224,21 @@ fn read_cases(input: &[u8], from: usize, first: &[u8], second: &[u8], newest: &[
         let new = after(input, b);
         let c = line_end(input, new);
         read_named(
+            to,
             &input[at..a],
             &input[old..b],
             &input[new..c],
             first,
             second,
             newest,
-        );
+        )?;
         at = after(input, c);
     }
+    Ok(())
 }
 
 // The first two lines are texts of the first and the second edition; that of the newest is the standard one.
-fn reads(input: &[u8]) {
+fn reads<W: Write>(to: &mut W, input: &[u8]) -> io::Result<()> {
     let mut first = [0u8; 1024];
     let mut second = [0u8; 4096];
     let mut newest = [0u8; 4096];
@@ -218,50 +251,58 @@ fn reads(input: &[u8]) {
     editions::write_text(s, &mut newest);
     let n = editions::text_length(s);
     if 4096 < n {
-        return;
+        return Ok(());
     }
     read_cases(
+        to,
         input,
         after(input, c),
         &first[..m],
         &second[..k],
         &newest[..n],
-    );
+    )
 }
 
-fn writes() {
-    write_case(b"write with room", 6, 25, 4096);
-    write_case(b"write with just room", 6, 25, 1710);
-    write_case(b"write one byte short", 6, 25, 1709);
-    write_case(b"write without a buffer", 6, 25, 0);
-    write_case(b"write r2_period 64", 6, 64, 4096);
-    write_case(b"write orbit 3563, RELATION before ROOM", 2, 3563, 0);
-    write_case(b"write orbit 4097, RANGE before RELATION", 2, 4097, 4096);
-    write_case(b"write at6_cal 3600", 105, 3600, 4096);
+fn writes<W: Write>(to: &mut W) -> io::Result<()> {
+    write_case(to, b"write with room", 6, 25, 4096)?;
+    write_case(to, b"write with just room", 6, 25, 1710)?;
+    write_case(to, b"write one byte short", 6, 25, 1709)?;
+    write_case(to, b"write without a buffer", 6, 25, 0)?;
+    write_case(to, b"write r2_period 64", 6, 64, 4096)?;
+    write_case(to, b"write orbit 3563, RELATION before ROOM", 2, 3563, 0)?;
+    write_case(
+        to,
+        b"write orbit 4097, RANGE before RELATION",
+        2,
+        4097,
+        4096,
+    )?;
+    write_case(to, b"write at6_cal 3600", 105, 3600, 4096)
 }
 
-fn checks() {
-    check_case(b"check r2_period 63", 6, 63);
-    check_case(b"check r2_period 64", 6, 64);
-    check_case(b"check part31 8", 148, 8);
-    check_case(b"check part31 9", 148, 9);
-    check_case(b"check orbit 63, RANGE before RELATION", 2, 63);
-    check_case(b"check orbit 64", 2, 64);
-    check_case(b"check at0_stop 3564", 36, 3564);
-    check_case(b"check at0_stop 500", 36, 500);
-    check_case(b"check at0_wte 3400", 38, 3400);
-    check_case(b"check at7_cal 3564", 116, 3564);
-    check_case(b"check at7_cal 4096", 116, 4096);
-    check_case(b"check at4_bc0 3400", 73, 3400);
-    check_case(b"check at2_te 2999", 52, 2999);
-    check_case(b"check at1_cal 3491", 50, 3491);
-    check_case(b"check r4_norm 1", 13, 1);
+fn checks<W: Write>(to: &mut W) -> io::Result<()> {
+    check_case(to, b"check r2_period 63", 6, 63)?;
+    check_case(to, b"check r2_period 64", 6, 64)?;
+    check_case(to, b"check part31 8", 148, 8)?;
+    check_case(to, b"check part31 9", 148, 9)?;
+    check_case(to, b"check orbit 63, RANGE before RELATION", 2, 63)?;
+    check_case(to, b"check orbit 64", 2, 64)?;
+    check_case(to, b"check at0_stop 3564", 36, 3564)?;
+    check_case(to, b"check at0_stop 500", 36, 500)?;
+    check_case(to, b"check at0_wte 3400", 38, 3400)?;
+    check_case(to, b"check at7_cal 3564", 116, 3564)?;
+    check_case(to, b"check at7_cal 4096", 116, 4096)?;
+    check_case(to, b"check at4_bc0 3400", 73, 3400)?;
+    check_case(to, b"check at2_te 2999", 52, 2999)?;
+    check_case(to, b"check at1_cal 3491", 50, 3491)?;
+    check_case(to, b"check r4_norm 1", 13, 1)
 }
 
-fn main() {
-    let mut input = io::large_buffer();
-    let n = io::read_full(STDIN_FILENO, &mut input);
-    reads(&input[..n]);
-    writes();
-    checks();
+fn main(rt: HostRuntime) -> io::Result<()> {
+    let mut input = [0u8; 65536];
+    let n = read_input(rt.stdin(), &mut input)?;
+    let mut to = io::writer(&rt);
+    reads(&mut to, &input[..n])?;
+    writes(&mut to)?;
+    checks(&mut to)
 }

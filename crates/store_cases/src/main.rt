@@ -3,17 +3,20 @@
 // as many more after it round the ring, `o v` the place of the oldest, `u v` the words in use. `r room` reads out into a buffer of
 // that length. `b input` runs four crossings on a fresh board with the store beside it and goes on with the store that it leaves;
 // `x input` does so on a board that is not sound.
+#![tactic(auto)]
+
 ghost use Rattle.std.specs.Prelude.{◌<◌, ◌≤◌, length};
 
 use answer::Answer;
 use board::Board;
 use cases::{
-    Words, after, at_most, end_line, line_end, say_answer, say_comment, say_left, say_untouched,
-    say_written, words_of,
+    Words, after, at_most, end_line, line_end, read_input, say_answer, say_comment, say_left,
+    say_untouched, say_written, words_of,
 };
 use history::{Store, WORDS};
-use libc::STDIN_FILENO;
 use settings::Settings;
+use std::io;
+use std::io::Write;
 
 fn word(n: u64) -> u16 {
     (n % 65536) as u16
@@ -77,20 +80,20 @@ fn read_end(store: Store, done: bool, room: usize) -> usize
 }
 
 // Reads out into the first bytes of a buffer, and tells what was written.
-fn read_into(store: Store, out: &mut [u8], room: usize)
+fn read_into<W: Write>(to: &mut W, store: Store, out: &mut [u8], room: usize) -> io::Result<()>
     requires { room ≤ length out.old }
 {
     let a = store.read(&mut out[..room]);
     let done = a.is_done();
-    say_answer(b"answer ", a);
-    say_written(b", buffer", out, done, read_end(store, done, room), 7);
+    say_answer(to, b"answer ", a)?;
+    say_written(to, b", buffer", out, done, read_end(store, done, room), 7)
 }
 
-fn read_out(store: Store, room: usize)
+fn read_out<W: Write>(to: &mut W, store: Store, room: usize) -> io::Result<()>
     requires { room ≤ 480 }
 {
     let mut out = [170u8; 480];
-    read_into(store, &mut out, room);
+    read_into(to, store, &mut out, room)
 }
 
 // Four crossings in which every input carries code 8, so that each is believed to from the second on.
@@ -121,57 +124,63 @@ fn unsound_board() -> Board {
     board
 }
 
-fn run_block(board: Board, store: Store, input: u64) -> Store {
+fn run_block<W: Write>(out: &mut W, board: Board, store: Store, input: u64) -> io::Result<Store> {
     let log = four_crossings();
     let mut rows = [170u8; 48];
     let r = beside::block(board, store, input as usize, &log, &mut rows);
     let a = r.answer;
     let next = r.board;
     let left = r.store;
-    say_answer(b"answer ", a);
+    say_answer(out, b"answer ", a)?;
     // Every crossing is counted, so the count tells whether the board was run.
-    say_left(b", board", board.clock.crossings == next.clock.crossings);
-    say_left(b", store", is_same(store, left));
-    say_untouched(b", rows", &rows, 0);
-    end_line();
-    left
+    let kept = board.clock.crossings == next.clock.crossings;
+    say_left(out, b", board", kept)?;
+    say_left(out, b", store", is_same(store, left))?;
+    say_untouched(out, b", rows", &rows, 0)?;
+    end_line(out)?;
+    Ok(left)
 }
 
-fn say_read_out(store: Store, w: Words) {
+fn say_read_out<W: Write>(out: &mut W, store: Store, w: Words) -> io::Result<()> {
     if w.letter == b'r' {
-        read_out(store, at_most(w.a, 480));
+        read_out(out, store, at_most(w.a, 480))?;
     }
+    Ok(())
 }
 
 // The store after a line.
-fn obey(store: Store, w: Words) -> Store {
+fn obey<W: Write>(out: &mut W, store: Store, w: Words) -> io::Result<Store> {
     let letter = w.letter;
     match letter {
-        b'n' => Store::fresh(),
-        b'w' => set_words(store, at_most(w.a, 1023), word(w.b), at_most(w.c, 1023)),
-        b'o' => set_oldest(store, w.a),
-        b'u' => set_used(store, w.a),
-        b'b' => run_block(fresh_board(), store, w.a),
-        b'x' => run_block(unsound_board(), store, w.a),
-        _ => store,
+        b'n' => Ok(Store::fresh()),
+        b'w' => {
+            let more = at_most(w.c, 1023);
+            Ok(set_words(store, at_most(w.a, 1023), word(w.b), more))
+        }
+        b'o' => Ok(set_oldest(store, w.a)),
+        b'u' => Ok(set_used(store, w.a)),
+        b'b' => run_block(out, fresh_board(), store, w.a),
+        b'x' => run_block(out, unsound_board(), store, w.a),
+        _ => Ok(store),
     }
 }
 
-fn obey_all(input: &[u8]) {
+fn obey_all<W: Write>(out: &mut W, input: &[u8]) -> io::Result<()> {
     let mut store = Store::fresh();
     let mut at = 0;
     while at < input.len() {
         let end = line_end(input, at);
         let w = words_of(&input[at..end]);
-        say_comment(&input[at..end], w.letter);
-        say_read_out(store, w);
-        store = obey(store, w);
+        say_comment(out, &input[at..end], w.letter)?;
+        say_read_out(out, store, w)?;
+        store = obey(out, store, w)?;
         at = after(input, end);
     }
+    Ok(())
 }
 
-fn main() {
+fn main(rt: HostRuntime) -> io::Result<()> {
     let mut input = [0u8; 8192];
-    let n = io::read_full(STDIN_FILENO, &mut input);
-    obey_all(&input[..n]);
+    let n = read_input(rt.stdin(), &mut input)?;
+    obey_all(&mut io::writer(&rt), &input[..n])
 }
