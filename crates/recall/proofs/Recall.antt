@@ -2,7 +2,7 @@
 -- The first by the definition; the second by induction on the blocks, as the cut without a store; the third is what a store recalls of its changes.
 use mathlib.Core.Path.{refl, subst}
 use mathlib.Core.Logic.{⊎_elim}
-use mathlib.Core.List.{List, []}
+use mathlib.Core.List.{List}
 use Prim.Native.Nat.{ℕ, ◌≤◌, ◌<◌}
 use native.Mathlib.Omega.{arith}
 use lib.ListN.{length, get_or, replicate, get_or-replicate, get_or-eq_default}
