@@ -2,6 +2,7 @@
 -- `Post` is what the checker itself reads in the `ensures` of src/: an `ensures` that says less breaks the claim.
 use Rattle.std.specs.Prelude.{ℕ, ◌≡◌, Bool, List}
 use denote.Ref.{MutBor, at_last}
+use denote.Bor.{Bor}
 use contract.Lifetimes.{Lfts}
 use Rattle.answer.specs.declared.Answer.{Answer}
 use Rattle.text.specs.declared.Range.{Range}
@@ -66,9 +67,13 @@ use Rattle.beside.proofs.keep_if.Reads as keep_if_contract
 abbrev pub One : {Out : Type 0} → (Out → Type 0) → Type 0
 One {Out} permits = (a b : Out) → permits a → permits b → a ≡ b
 
--- bytes, or the words of a ring, that are lent
+-- bytes, or the words of a ring, that are lent to be written
 abbrev pub Lent : Type 0
 Lent = MutBor (List ℕ)
+
+-- and those that are lent to be read
+abbrev pub Shown : Type 0
+Shown = Bor (List ℕ)
 
 -- nothing is lent to be written, so what came in is there at exit: an outcome is the value
 abbrev pub OneValue : {In Out : Type 0} → (In → Out → In → Type 0) → In → Type 0
@@ -86,62 +91,62 @@ OneHolding {Out = Out} post with carried believed =
 -- a `requires` is no premise: without it too, one outcome is permitted
 pub record OneOutcome : Type 0 where
   -- what the desk offers
-  pub read : (κs : Lfts 1) (text : Lent) → OneValue (read_contract.Post κs) (text, tt)
+  pub read : (κs : Lfts 1) (text : Shown) → OneValue (read_contract.Post κs) (text, tt)
   pub write : (κs : Lfts 1) (s : Settings) (buffer : Lent) → OneFilling (write_contract.Post κs) (λ out. (s, (out, tt))) buffer
   pub check : (s : Settings) → OneValue (check_contract.Post tt) (s, tt)
   pub fresh : (s : Settings) → OneValue (fresh_contract.Post tt) (s, tt)
-  pub block : (κs : Lfts 2) (board : Board) (log rows : Lent) → OneFilling (block_contract.Post κs) (λ out. (board, (log, (out, tt)))) rows
+  pub block : (κs : Lfts 2) (board : Board) (log : Shown) (rows : Lent) → OneFilling (block_contract.Post κs) (λ out. (board, (log, (out, tt)))) rows
   pub is_sound : (board : Board) → OneValue (is_sound_contract.Post tt) (board, tt)
   pub report : (κs : Lfts 1) (board : Board) (buffer : Lent) → OneFilling (report_contract.Post κs) (λ out. (board, (out, tt))) buffer
   -- document 02, P6
   pub fresh_store : OneValue (fresh_store_contract.Post tt) tt
   pub is_sound_store : (store : Store) → OneValue (is_sound_store_contract.Post tt) (store, tt)
   pub read_out : (κs : Lfts 1) (store : Store) (buffer : Lent) → OneFilling (read_out_contract.Post κs) (λ out. (store, (out, tt))) buffer
-  pub beside : (κs : Lfts 2) (board : Board) (store : Store) (input : ℕ) (log rows : Lent)
+  pub beside : (κs : Lfts 2) (board : Board) (store : Store) (input : ℕ) (log : Shown) (rows : Lent)
       → OneFilling (beside_contract.Post κs) (λ out. (board, (store, (input, (log, (out, tt)))))) rows
   -- document 02, P7
-  pub salvage : (κs : Lfts 3) (first : ℕ) (log salvaged changes : Lent)
+  pub salvage : (κs : Lfts 3) (first : ℕ) (log : Shown) (salvaged changes : Lent)
       → OneHolding (salvage_contract.Post κs) (λ out list. (first, (log, (out, (list, tt))))) salvaged changes
   -- what else the programs call
-  pub opened : (κs : Lfts 1) (text : Lent) → OneValue (opened_contract.Post κs) (text, tt)
-  pub run_blocks : (κs : Lfts 2) (board : Board) (log rows : Lent) → OneFilling (run_blocks_contract.Post κs) (λ out. (board, (log, (out, tt)))) rows
+  pub opened : (κs : Lfts 1) (text : Shown) → OneValue (opened_contract.Post κs) (text, tt)
+  pub run_blocks : (κs : Lfts 2) (board : Board) (log : Shown) (rows : Lent) → OneFilling (run_blocks_contract.Post κs) (λ out. (board, (log, (out, tt)))) rows
   pub report_length : (board : Board) → OneValue (report_length_contract.Post tt) (board, tt)
   pub standard : OneValue (standard_contract.Post tt) tt
   pub settings_length : (s : Settings) → OneValue (settings_length_contract.Post tt) (s, tt)
   pub read_length : (store : Store) → OneValue (read_length_contract.Post tt) (store, tt)
-  pub keep_if : (κs : Lfts 2) (a : Answer) (board : Board) (store : Store) (input : ℕ) (log rows : Lent)
+  pub keep_if : (κs : Lfts 2) (a : Answer) (board : Board) (store : Store) (input : ℕ) (log rows : Shown)
       → OneValue (keep_if_contract.Post κs) (a, (board, (store, (input, (log, (rows, tt))))))
   pub put_answer : (κs : Lfts 1) (buffer : Lent) (a : Answer) → OneFilling (put_answer_contract.Post κs) (λ out. (out, (a, tt))) buffer
   pub put_block : (κs : Lfts 1) (buffer : Lent) (at block : ℕ) → OneFilling (put_block_contract.Post κs) (λ out. (out, (at, (block, tt)))) buffer
   pub number : (a : Answer) → OneValue (number_contract.Post tt) (a, tt)
   pub is_done : (a : Answer) → OneValue (is_done_contract.Post tt) (a, tt)
   -- every other public function of the library whose `ensures` is no plain equation of the result
-  pub refusal : (κs : Lfts 1) (done : ℕ) (log : Lent) (room : ℕ) → OneValue (refusal_contract.Post κs) (done, (log, (room, tt)))
-  pub test_blocks : (κs : Lfts 1) (first : ℕ) (log : Lent) (room : ℕ) → OneValue (test_blocks_contract.Post κs) (first, (log, (room, tt)))
-  pub blocks : (κs : Lfts 2) (board : Board) (log rows : Lent) → OneFilling (blocks_contract.Post κs) (λ out. (board, (log, (out, tt)))) rows
-  pub read_line : (κs : Lfts 2) (text : Lent) (at : ℕ) (head : Lent) (range : Range) → OneValue (read_line_contract.Post κs) (text, (at, (head, (range, tt))))
-  pub read_key : (κs : Lfts 1) (text : Lent) (at n : ℕ) (range : Range) → OneValue (read_key_contract.Post κs) (text, (at, (n, (range, tt))))
-  pub put_bytes : (κs : Lfts 2) (buffer : Lent) (at : ℕ) (s : Lent) → OneFilling (put_bytes_contract.Post κs) (λ out. (out, (at, (s, tt)))) buffer
-  pub put_line : (κs : Lfts 2) (buffer : Lent) (at : ℕ) (head : Lent) (n : ℕ)
+  pub refusal : (κs : Lfts 1) (done : ℕ) (log : Shown) (room : ℕ) → OneValue (refusal_contract.Post κs) (done, (log, (room, tt)))
+  pub test_blocks : (κs : Lfts 1) (first : ℕ) (log : Shown) (room : ℕ) → OneValue (test_blocks_contract.Post κs) (first, (log, (room, tt)))
+  pub blocks : (κs : Lfts 2) (board : Board) (log : Shown) (rows : Lent) → OneFilling (blocks_contract.Post κs) (λ out. (board, (log, (out, tt)))) rows
+  pub read_line : (κs : Lfts 2) (text : Shown) (at : ℕ) (head : Shown) (range : Range) → OneValue (read_line_contract.Post κs) (text, (at, (head, (range, tt))))
+  pub read_key : (κs : Lfts 1) (text : Shown) (at n : ℕ) (range : Range) → OneValue (read_key_contract.Post κs) (text, (at, (n, (range, tt))))
+  pub put_bytes : (κs : Lfts 2) (buffer : Lent) (at : ℕ) (s : Shown) → OneFilling (put_bytes_contract.Post κs) (λ out. (out, (at, (s, tt)))) buffer
+  pub put_line : (κs : Lfts 2) (buffer : Lent) (at : ℕ) (head : Shown) (n : ℕ)
       → OneFilling (put_line_contract.Post κs) (λ out. (out, (at, (head, (n, tt))))) buffer
   pub put_key : (κs : Lfts 1) (buffer : Lent) (at n v : ℕ) → OneFilling (put_key_contract.Post κs) (λ out. (out, (at, (n, (v, tt))))) buffer
-  pub put_keys : (κs : Lfts 2) (buffer : Lent) (at first : ℕ) (values : Lent)
+  pub put_keys : (κs : Lfts 2) (buffer : Lent) (at first : ℕ) (values : Shown)
       → OneFilling (put_keys_contract.Post κs) (λ out. (out, (at, (first, (values, tt))))) buffer
   pub line_length : (n v : ℕ) → OneValue (line_length_contract.Post tt) (n, (v, tt))
-  pub lines_length : (κs : Lfts 1) (first : ℕ) (values : Lent) → OneValue (lines_length_contract.Post κs) (first, (values, tt))
-  pub range : (κs : Lfts 2) (lows highs : Lent) (n : ℕ) → OneValue (range_contract.Post κs) (lows, (highs, (n, tt)))
+  pub lines_length : (κs : Lfts 1) (first : ℕ) (values : Shown) → OneValue (lines_length_contract.Post κs) (first, (values, tt))
+  pub range : (κs : Lfts 2) (lows highs : Shown) (n : ℕ) → OneValue (range_contract.Post κs) (lows, (highs, (n, tt)))
   pub fault : (f : Fault) → OneValue (fault_contract.Post tt) (f, tt)
   pub put_row : (κs : Lfts 1) (buffer : Lent) (row : List ℕ) → OneFilling (put_row_contract.Post κs) (λ out. (out, (row, tt))) buffer
   pub pass : (κs : Lfts 1) (ring : Lent) (c x : ℕ) → OneFilling (pass_contract.Post κs) (λ marks. (marks, (c, (x, tt)))) ring
   pub code : (carried believed now : ℕ) → OneValue (code_contract.Post tt) (carried, (believed, (now, tt)))
-  pub code_at : (κs : Lfts 1) (codes : Lent) (input : ℕ) → OneValue (code_at_contract.Post κs) (codes, (input, tt))
+  pub code_at : (κs : Lfts 1) (codes : Shown) (input : ℕ) → OneValue (code_at_contract.Post κs) (codes, (input, tt))
   pub keep : (κs : Lfts 1) (pen : Pen) (words : Lent) (c : Change) → OneFilling (keep_contract.Post κs) (λ ws. (pen, (ws, (c, tt)))) words
   pub crossed : (κs : Lfts 1) (f : Follower) (words : Lent) (pen : Pen) (orbit : ℕ) (marker : Bool) (code first : ℕ)
       → OneFilling (crossed_contract.Post κs) (λ ws. (f, (ws, (pen, (orbit, (marker, (code, (first, tt)))))))) words
-  pub is_firm : (κs : Lfts 2) (carried believed : Lent) → OneValue (is_firm_contract.Post κs) (carried, (believed, tt))
-  pub follow : (κs : Lfts 3) (carried believed : Lent) (firm : Bool) (codes : Lent)
+  pub is_firm : (κs : Lfts 2) (carried believed : Shown) → OneValue (is_firm_contract.Post κs) (carried, (believed, tt))
+  pub follow : (κs : Lfts 3) (carried believed : Lent) (firm : Bool) (codes : Shown)
       → OneHolding (follow_contract.Post κs) (λ c b. (c, (b, (firm, (codes, tt))))) carried believed
-  pub first_sight : (κs : Lfts 3) (turn : Turn) (table carried believed : Lent)
+  pub first_sight : (κs : Lfts 3) (turn : Turn) (table carried believed : Shown)
       → OneValue (first_contract.Post κs) (turn, (table, (carried, (believed, tt))))
-  pub next_sight : (κs : Lfts 6) (sight : Sight) (busy table slots : Lent) (clock : Clock) (calm : Bool) (carried believed log : Lent) (i : ℕ)
+  pub next_sight : (κs : Lfts 6) (sight : Sight) (busy table slots : Shown) (clock : Clock) (calm : Bool) (carried believed : Lent) (log : Shown) (i : ℕ)
       → OneHolding (next_contract.Post κs) (λ c b. (sight, (busy, (table, (slots, (clock, (calm, (c, (b, (log, (i, tt))))))))))) carried believed
