@@ -143,6 +143,7 @@ impl Turn {
     }
 
     // One orbit less; at none left the next one takes over.
+    #[tactic(auto, unfolding(crate::specs::Turn::fallen_of))]
     fn fallen(self, slots: &[u32; 8]) -> Turn
         requires { (SlotRoom slots.now) × (self.holder < 8) }
         ensures { result ≡ fallen_of slots.now self }

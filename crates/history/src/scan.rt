@@ -31,6 +31,7 @@ impl Scan {
     }
 
     // Whether the words may end here.
+    #[tactic(auto, unfolding(crate::specs::Scan::ends))]
     pub(crate) fn ends(self) -> bool
         ensures { result ≡ ends self }
     {
