@@ -75,7 +75,8 @@ impl Pen {
         requires { (Aligned words.now self) × (n ≤ 4) }
         ensures { (store_at words.now result ≡ roomed n (store_at words.now self)) × (result.scan ≡ self.scan) }
     {
-        if self.used + n <= WORDS {
+        let fits = self.used + n <= WORDS;
+        if fits {
             return self;
         }
         let gone = 3 + self.lead(words);

@@ -42,13 +42,15 @@ pub fn test_blocks(first: u64, log: &[u8], room: usize) -> Tested
         let at = BLOCK * i;
         let end = block_end(at, log.len());
         let a = refusal(done, &log[at..end], room - BLOCK_ROWS * i);
-        if !a.is_done() {
+        let refused = !a.is_done();
+        if refused {
             return Tested {
                 answer: a,
                 records: RECORDS * i,
             };
         }
-        done += crossings_in(&log[at..end], (end - at) / RECORD);
+        let crossings = crossings_in(&log[at..end], (end - at) / RECORD);
+        done += crossings;
         i += 1;
     }
     Tested {

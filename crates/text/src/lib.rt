@@ -52,7 +52,8 @@ pub fn starts_with(text: &[u8], at: usize, key: &[u8]) -> bool
         if text.len() <= i {
             return false;
         }
-        if text[i] != key[j] {
+        let differs = text[i] != key[j];
+        if differs {
             return false;
         }
         j += 1;

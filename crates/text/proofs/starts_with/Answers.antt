@@ -29,13 +29,13 @@ loop-j-init c = (search rules, simp add-zero)
 pub returns-then-text-i : goal.returns-then-text-i
 returns-then-text-i c = sym (c.loop-j.invariant.1 ∙ over _ _ _ _ c.loop-j-test.true c.if-text-i.true)
 
-pub returns-then-text-i-2 : goal.returns-then-text-i-2
-returns-then-text-i-2 c =
-    sym (c.loop-j.invariant.1 ∙ differ _ _ _ _ c.loop-j-test.true c.if-text-i.false c.if-text-i-2.true)
+pub returns-then-differs : goal.returns-then-differs
+returns-then-differs c =
+    sym (c.loop-j.invariant.1 ∙ differ _ _ _ _ c.loop-j-test.true c.if-text-i.false c.if-differs.true)
 
 pub loop-j-preserved : goal.loop-j-preserved
 loop-j-preserved c =
-    (search rules, c.loop-j.invariant.1 ∙ same _ _ _ _ c.loop-j-test.true c.if-text-i.false c.if-text-i-2.false)
+    (search rules, c.loop-j.invariant.1 ∙ same _ _ _ _ c.loop-j-test.true c.if-text-i.false c.if-differs.false)
 
 pub returns : goal.returns
 returns c = rw (c.loop-j.invariant.1, drop_of_length-le _ c.loop-j-test.false)

@@ -23,8 +23,8 @@ overflow_sub-room c =
     let room : 768 * c.loop-i.i ≤ c.args.room = (c.loop-i.invariant.3 more).1 in
     room
 
-pub returns-then-not-is_done : goal.returns-then-not-is_done
-returns-then-not-is_done c =
+pub returns-then-refused : goal.returns-then-refused
+returns-then-refused c =
     let more : 1536 * c.loop-i.i < length c.args.log.now = omega (arith, c.loop-i-test.true) in
     let ended : c.block_end-end.result ≡ min (1536 * c.loop-i.i + 1536) (length c.args.log.now) = c.block_end-end.ensures in
     let said : (let a = c.args in
@@ -33,11 +33,11 @@ returns-then-not-is_done c =
     answer_is a.first a.log.now a.room l.i l.done _ ended (l.invariant.3 more).0 _ c.refusal-a.ensures in
     let a = c.args in
     let l = c.loop-i in
-    let ill : succeeded (answer_at a.first a.log.now a.room l.i) ≡ false = ap succeeded (sym said) ∙ sym c.is_done.ensures ∙ c.if-not-is_done.true in
+    let ill : succeeded (answer_at a.first a.log.now a.room l.i) ≡ false = ap succeeded (sym said) ∙ sym c.is_done-refused.ensures ∙ c.if-refused.true in
     rw said (sym (refused_here a.first a.log.now a.room l.i (block_count a.log.now) (omega (arith, more)) l.invariant.2 ill))
 
-pub crossings_in-done-requires : goal.crossings_in-done-requires
-crossings_in-done-requires c =
+pub crossings_in-crossings-requires : goal.crossings_in-crossings-requires
+crossings_in-crossings-requires c =
     let ended : c.block_end-end.result ≡ min (1536 * c.loop-i.i + 1536) (length c.args.log.now) = c.block_end-end.ensures in
     let more : 1536 * c.loop-i.i < length c.args.log.now = omega (arith, c.loop-i-test.true) in
     let said : (let a = c.args in
@@ -45,7 +45,7 @@ crossings_in-done-requires c =
     let a = c.args in
     answer_is a.first a.log.now a.room l.i l.done _ ended (l.invariant.3 more).0 _ c.refusal-a.ensures in
     let through : (let a = c.args in
-    answer_at a.first a.log.now a.room c.loop-i.i ≡ DONE) = sym said ∙ told_done c.refusal-a.result (sym c.is_done.ensures ∙ c.if-not-is_done.false) in
+    answer_at a.first a.log.now a.room c.loop-i.i ≡ DONE) = sym said ∙ told_done c.refusal-a.result (sym c.is_done-refused.ensures ∙ c.if-refused.false) in
     let a = c.args in
     count_asked a.first a.log.now a.room c.loop-i.i _ ended through
 
@@ -58,10 +58,10 @@ overflow_add-done c =
     let a = c.args in
     answer_is a.first a.log.now a.room l.i l.done _ ended (l.invariant.3 more).0 _ c.refusal-a.ensures in
     let through : (let a = c.args in
-    answer_at a.first a.log.now a.room c.loop-i.i ≡ DONE) = sym said ∙ told_done c.refusal-a.result (sym c.is_done.ensures ∙ c.if-not-is_done.false) in
+    answer_at a.first a.log.now a.room c.loop-i.i ≡ DONE) = sym said ∙ told_done c.refusal-a.result (sym c.is_done-refused.ensures ∙ c.if-refused.false) in
     let a = c.args in
     let l = c.loop-i in
-    omega (arith, (l.invariant.3 more).0, lives_on a.first a.log.now a.room l.i _ ended through _ c.crossings_in-done.ensures)
+    omega (arith, (l.invariant.3 more).0, lives_on a.first a.log.now a.room l.i _ ended through _ c.crossings_in-crossings.ensures)
 
 pub loop-i-preserved : goal.loop-i-preserved
 loop-i-preserved c =
@@ -72,18 +72,18 @@ loop-i-preserved c =
     let a = c.args in
     answer_is a.first a.log.now a.room l.i l.done _ ended (l.invariant.3 more).0 _ c.refusal-a.ensures in
     let through : (let a = c.args in
-    answer_at a.first a.log.now a.room c.loop-i.i ≡ DONE) = sym said ∙ told_done c.refusal-a.result (sym c.is_done.ensures ∙ c.if-not-is_done.false) in
+    answer_at a.first a.log.now a.room c.loop-i.i ≡ DONE) = sym said ∙ told_done c.refusal-a.result (sym c.is_done-refused.ensures ∙ c.if-refused.false) in
     let a = c.args in
     let l = c.loop-i in
     let before = l.invariant.3 more in
-    let x = c.crossings_in-done.result in
-    let lives = lives_on a.first a.log.now a.room l.i _ ended through x c.crossings_in-done.ensures in (
+    let x = c.crossings_in-crossings.result in
+    let lives = lives_on a.first a.log.now a.room l.i _ ended through x c.crossings_in-crossings.ensures in (
       omega (arith, more),
       omega (arith, before.0, lives),
       through_next a.first a.log.now a.room l.i more l.invariant.2 through,
       λ h. (
-        ap (λ (k : ℕ). k + x) before.0 ∙ done_on a.first a.log.now a.room l.i _ ended through x c.crossings_in-done.ensures h,
-        room_on a.first a.log.now a.room l.i _ ended through x c.crossings_in-done.ensures before.1 h,
+        ap (λ (k : ℕ). k + x) before.0 ∙ done_on a.first a.log.now a.room l.i _ ended through x c.crossings_in-crossings.ensures h,
+        room_on a.first a.log.now a.room l.i _ ended through x c.crossings_in-crossings.ensures before.1 h,
       ),
     )
 

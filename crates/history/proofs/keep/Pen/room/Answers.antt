@@ -21,37 +21,37 @@ gone s p n h e =
     let same : 3 + n ≡ group_in (kept s) = rw (content_drop s.words 3 s.oldest s.used) (ap (λ (m : ℕ). 3 + m) e) in
     (same, omega (arith, same, f.most))
 
-pub overflow_add-self : goal.overflow_add-self
-overflow_add-self c =
+pub overflow_add-fits : goal.overflow_add-fits
+overflow_add-fits c =
     omega (arith, sound_parts_lem _ c.requires.0.sound)
 
-pub returns-then-self-n-le-WORDS : goal.returns-then-self-n-le-WORDS
+pub returns-then-fits : goal.returns-then-fits
 unfolding roomed
-returns-then-self-n-le-WORDS c = (rw (le-leb _ 1024 c.if-self-n-le-WORDS.true), refl)
+returns-then-fits c = (rw (le-leb _ 1024 c.if-fits.true), refl)
 
 pub lead-gone-requires : goal.lead-gone-requires
 lead-gone-requires c =
     let p = sound_parts_lem _ c.requires.0.sound in
-    (p.oldest, p.used, omega (arith, c.if-self-n-le-WORDS.false, c.requires.1))
+    (p.oldest, p.used, omega (arith, c.if-fits.false, c.requires.1))
 
 pub overflow_add-gone : goal.overflow_add-gone
 overflow_add-gone c =
     let p = sound_parts_lem _ c.requires.0.sound in
-    omega (arith, (gone _ p _ (omega (arith, c.if-self-n-le-WORDS.false, c.requires.1)) c.lead-gone.ensures).1)
+    omega (arith, (gone _ p _ (omega (arith, c.if-fits.false, c.requires.1)) c.lead-gone.ensures).1)
 
 pub overflow_add-result : goal.overflow_add-result
 overflow_add-result c =
     let p = sound_parts_lem _ c.requires.0.sound in
-    omega (arith, p.oldest, (gone _ p _ (omega (arith, c.if-self-n-le-WORDS.false, c.requires.1)) c.lead-gone.ensures).1)
+    omega (arith, p.oldest, (gone _ p _ (omega (arith, c.if-fits.false, c.requires.1)) c.lead-gone.ensures).1)
 
 pub overflow_sub-result : goal.overflow_sub-result
 overflow_sub-result c =
     let p = sound_parts_lem _ c.requires.0.sound in
-    omega (arith, p.used, gone _ p _ (omega (arith, c.if-self-n-le-WORDS.false, c.requires.1)) c.lead-gone.ensures)
+    omega (arith, p.used, gone _ p _ (omega (arith, c.if-fits.false, c.requires.1)) c.lead-gone.ensures)
 
 pub returns : goal.returns
 unfolding roomed less_one
 returns c =
     let p = sound_parts_lem _ c.requires.0.sound in
-    let g = gone _ p _ (omega (arith, c.if-self-n-le-WORDS.false, c.requires.1)) c.lead-gone.ensures in
-    (rw (lt-leb _ 1024 c.if-self-n-le-WORDS.false, g.0), refl)
+    let g = gone _ p _ (omega (arith, c.if-fits.false, c.requires.1)) c.lead-gone.ensures in
+    (rw (lt-leb _ 1024 c.if-fits.false, g.0), refl)
