@@ -102,7 +102,8 @@ fn read_lines(text: &[u8], e: usize) -> Got
             }
         }
     }
-    if at < text.len() {
+    let has_tail = at < text.len();
+    if has_tail {
         return Got {
             answer: Answer::Text(lines + 1),
             numbers: numbers,

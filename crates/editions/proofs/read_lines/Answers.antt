@@ -73,16 +73,16 @@ returns-in-Out c =
     let w = out_is (at_line) (ap (line_seen (text)) (sym c.in-Out.is) ∙ c.read_line-got.ensures.says) in
     record { says = sym (ap lines_told w); numbers = λ z. absurd (false≢true z) }
 
-pub returns-then-at-text : goal.returns-then-at-text
-returns-then-at-text c =
+pub returns-then-has_tail : goal.returns-then-has_tail
+returns-then-has_tail c =
     let k = known c.args.e c.requires.0 c.requires.1 in
     let last : c.loop-n.n ≡ count_of c.args.e = omega (arith, c.count-lines.ensures.0) in
-    let w = tail_is c.args.e k c.loop-n.numbers _ c.loop-n.at c.loop-n.n c.loop-n.invariant.2 c.loop-n.invariant.3 last c.if-at-text.true in
+    let w = tail_is c.args.e k c.loop-n.numbers _ c.loop-n.at c.loop-n.n c.loop-n.invariant.2 c.loop-n.invariant.3 last c.if-has_tail.true in
     record { says = rw c.count-lines.ensures.0 w; numbers = λ z. absurd (false≢true z) }
 
 pub returns : goal.returns
 returns c =
     let k = known c.args.e c.requires.0 c.requires.1 in
     let last : c.loop-n.n ≡ count_of c.args.e = omega (arith, c.count-lines.ensures.0) in
-    let w = end_is c.args.e k c.loop-n.numbers _ c.loop-n.at c.loop-n.n c.loop-n.invariant.2 c.loop-n.invariant.3 last c.if-at-text.false in
+    let w = end_is c.args.e k c.loop-n.numbers _ c.loop-n.at c.loop-n.n c.loop-n.invariant.2 c.loop-n.invariant.3 last c.if-has_tail.false in
     record { says = sym (ap lines_told w); numbers = λ z. w }
