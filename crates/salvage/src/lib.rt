@@ -124,10 +124,12 @@ pub fn salvage(first: u64, log: &[u8], salvaged: &mut [u8], changes: &mut [u8]) 
         return refused(Answer::Range(first as usize));
     }
     let needed = measure(first, log);
-    if salvaged.len() < needed.log {
+    let log_short = salvaged.len() < needed.log;
+    if log_short {
         return refused(Answer::Room(needed.log));
     }
-    if changes.len() < needed.list {
+    let list_short = changes.len() < needed.list;
+    if list_short {
         return refused(Answer::Room(needed.list));
     }
     write(first, log, salvaged, changes);

@@ -37,41 +37,41 @@ measure-needed-requires c =
     let numbered : c.args.first + parts_in c.args.log.now ≤ MOST = omega (arith, c.if-first-log.false, c.ranges) in
     numbered
 
-pub returns-then-salvaged-needed : goal.returns-then-salvaged-needed
+pub returns-then-log_short : goal.returns-then-log_short
 unfolding salvage_of
-returns-then-salvaged-needed c =
+returns-then-log_short c =
     let numbered : c.args.first + parts_in c.args.log.now ≤ MOST = omega (arith, c.if-first-log.false, c.ranges) in
     let n = c.measure-needed.ensures in
-    let e = c.refused-then-salvaged-needed.ensures in
-    rw (le-leb _ _ (numbered), lt-leb (length (salvaged_log c.args.log.now)) (length c.args.salvaged.now) (omega (arith, c.if-salvaged-needed.true, n.0)), e.0, e.1, e.2, n.0)
+    let e = c.refused-then-log_short.ensures in
+    rw (le-leb _ _ (numbered), lt-leb (length (salvaged_log c.args.log.now)) (length c.args.salvaged.now) (omega (arith, c.if-log_short.true, n.0)), e.0, e.1, e.2, n.0)
 
-pub returns-then-changes-needed : goal.returns-then-changes-needed
+pub returns-then-list_short : goal.returns-then-list_short
 unfolding salvage_of
-returns-then-changes-needed c =
+returns-then-list_short c =
     let numbered : c.args.first + parts_in c.args.log.now ≤ MOST = omega (arith, c.if-first-log.false, c.ranges) in
-    let log_fits : length (salvaged_log c.args.log.now) ≤ length c.args.salvaged.now = omega (arith, c.if-salvaged-needed.false, c.measure-needed.ensures.0) in
+    let log_fits : length (salvaged_log c.args.log.now) ≤ length c.args.salvaged.now = omega (arith, c.if-log_short.false, c.measure-needed.ensures.0) in
     let n = c.measure-needed.ensures in
-    let e = c.refused-then-changes-needed.ensures in
-    let short = lt-leb (length (list_text (changes_in c.args.first c.args.log.now))) (length c.args.changes.now) (omega (arith, c.if-changes-needed.true, n.1)) in
+    let e = c.refused-then-list_short.ensures in
+    let short = lt-leb (length (list_text (changes_in c.args.first c.args.log.now))) (length c.args.changes.now) (omega (arith, c.if-list_short.true, n.1)) in
     rw (le-leb _ _ (numbered), le-leb _ _ (log_fits), short, e.0, e.1, e.2, n.1)
 
 pub write-requires : goal.write-requires
 write-requires c =
     let numbered : c.args.first + parts_in c.args.log.now ≤ MOST = omega (arith, c.if-first-log.false, c.ranges) in
-    let log_fits : length (salvaged_log c.args.log.now) ≤ length c.args.salvaged.now = omega (arith, c.if-salvaged-needed.false, c.measure-needed.ensures.0) in
+    let log_fits : length (salvaged_log c.args.log.now) ≤ length c.args.salvaged.now = omega (arith, c.if-log_short.false, c.measure-needed.ensures.0) in
     let list_is : (let a = c.args in
-    c.measure-needed.result.list ≡ length (list_text (changes_in a.first a.log.now))) = omega (arith, c.if-changes-needed.false, c.measure-needed.ensures.1) in
+    c.measure-needed.result.list ≡ length (list_text (changes_in a.first a.log.now))) = omega (arith, c.if-list_short.false, c.measure-needed.ensures.1) in
     let list_fits : (let a = c.args in
-    length (list_text (changes_in a.first a.log.now)) ≤ length a.changes.now) = omega (arith, c.if-changes-needed.false, list_is) in
+    length (list_text (changes_in a.first a.log.now)) ≤ length a.changes.now) = omega (arith, c.if-list_short.false, list_is) in
     (numbered, log_fits, list_fits)
 
 pub returns : goal.returns
 returns c =
     let numbered : c.args.first + parts_in c.args.log.now ≤ MOST = omega (arith, c.if-first-log.false, c.ranges) in
-    let log_fits : length (salvaged_log c.args.log.now) ≤ length c.args.salvaged.now = omega (arith, c.if-salvaged-needed.false, c.measure-needed.ensures.0) in
+    let log_fits : length (salvaged_log c.args.log.now) ≤ length c.args.salvaged.now = omega (arith, c.if-log_short.false, c.measure-needed.ensures.0) in
     let list_is : (let a = c.args in
-    c.measure-needed.result.list ≡ length (list_text (changes_in a.first a.log.now))) = omega (arith, c.if-changes-needed.false, c.measure-needed.ensures.1) in
+    c.measure-needed.result.list ≡ length (list_text (changes_in a.first a.log.now))) = omega (arith, c.if-list_short.false, c.measure-needed.ensures.1) in
     let list_fits : (let a = c.args in
-    length (list_text (changes_in a.first a.log.now)) ≤ length a.changes.now) = omega (arith, c.if-changes-needed.false, list_is) in
+    length (list_text (changes_in a.first a.log.now)) ≤ length a.changes.now) = omega (arith, c.if-list_short.false, list_is) in
     let a = c.args in
     done a.first a.log.now a.salvaged.now a.changes.now _ _ _ _ (numbered) (log_fits) (list_fits) c.measure-needed.ensures.0 (list_is) c.write.ensures.0 c.write.ensures.1
