@@ -47,7 +47,7 @@ fn is_untouched(bytes: &[u8], from: usize) -> bool
     same
 }
 
-// Whether a call left something as it was.
+// Whether a call left something as it was. No contract says what is printed: `stdout` does.
 pub fn say_left<W: Write>(out: &mut W, what: &[u8], same: bool) -> io::Result<()> {
     say(out, what)?;
     if same {
@@ -57,7 +57,7 @@ pub fn say_left<W: Write>(out: &mut W, what: &[u8], same: bool) -> io::Result<()
     }
 }
 
-// Whether a buffer that held 170 everywhere does from a place on.
+// Whether a buffer that held 170 everywhere does from a place on. No contract says what is printed: `stdout` does.
 pub fn say_untouched<W: Write>(
     out: &mut W,
     what: &[u8],
@@ -70,7 +70,7 @@ pub fn say_untouched<W: Write>(
 }
 
 // The bytes before a place, in groups, and whether a call that was done wrote nothing after them, or a refused one nothing at
-// all: the buffer held 170 everywhere.
+// all: the buffer held 170 everywhere. No contract says what is printed: `stdout` does.
 pub fn say_written<W: Write>(
     out: &mut W,
     what: &[u8],

@@ -28,15 +28,17 @@ pub fn read_input<R: Read + Drop>(input: R, room: &mut [u8]) -> io::Result<usize
     }
 }
 
+// No contract says what is printed: `stdout` does.
 pub fn say<W: Write>(out: &mut W, text: &[u8]) -> io::Result<()> {
     out.write_all(text)
 }
 
+// No contract says what is printed: `stdout` does.
 pub fn end_line<W: Write>(out: &mut W) -> io::Result<()> {
     say(out, b"\n")
 }
 
-// The line, where its letter makes it a comment.
+// The line, where its letter makes it a comment. No contract says what is printed: `stdout` does.
 pub fn say_comment<W: Write>(out: &mut W, line: &[u8], letter: u8) -> io::Result<()> {
     if letter == b'#' {
         say(out, line)?;
@@ -45,7 +47,7 @@ pub fn say_comment<W: Write>(out: &mut W, line: &[u8], letter: u8) -> io::Result
     Ok(())
 }
 
-// A number after a text.
+// A number after a text. No contract says what is printed: `stdout` does.
 pub fn say_number<W: Write>(out: &mut W, before: &[u8], n: u64) -> io::Result<()> {
     say(out, before)?;
     write!(out, "{n}")
@@ -55,7 +57,7 @@ fn say_carried<W: Write>(out: &mut W, value: usize) -> io::Result<()> {
     say_number(out, b" carries ", value as u64)
 }
 
-// The refusal's number or 0 after a text, and what it carries.
+// The refusal's number or 0 after a text, and what it carries. No contract says what is printed: `stdout` does.
 pub fn say_answer<W: Write>(out: &mut W, before: &[u8], a: Answer) -> io::Result<()> {
     say_number(out, before, a.number())?;
     match a {

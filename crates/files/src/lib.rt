@@ -17,7 +17,7 @@ pub struct Got {
     pub failed: Option<Error>,
 }
 
-// A file of the folder that the program runs in, where it can be opened.
+// A file of the folder that the program runs in, where it can be opened. No contract can say which can.
 pub fn open<F: Files>(rt: &F, name: &str) -> Option<F::File> {
     fs::open(rt, name).ok()
 }
