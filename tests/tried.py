@@ -1,5 +1,6 @@
 """What the cases in Python share: counted cases, a folder to work in, and benches made in it."""
 import pathlib
+import re
 import subprocess
 import sys
 import tempfile
@@ -46,6 +47,6 @@ def bench(folder, log=b"", text=STANDARD):
 
 
 def tool(name, *words):
-    """A tool's status, output and what it says beside."""
+    """A tool's status, output and what it says beside, but for how far it is: whether that is said goes by the clock."""
     ended = subprocess.run([sys.executable, "-B", HERE / "glance" / f"{name}.py", *map(str, words)], capture_output=True)
-    return ended.returncode, ended.stdout.decode(), ended.stderr.decode()
+    return ended.returncode, ended.stdout.decode(), re.sub(r"run: page: \d+% of [\d,]+ crossings\n", "", ended.stderr.decode())

@@ -33,13 +33,13 @@ fn main(rt: HostRuntime) -> ExitCode {
     let mut text = files::open(&rt, "board.set");
     let opened = shell::open_board(&mut text);
     let made = opened.made;
-    if ending::is_over(&rt, "board.set", opened.failed, made.answer) {
+    if ending::is_over(&rt, b"board.set", opened.failed, made.answer) {
         return ExitCode::FAILURE;
     }
     let mut log = files::open(&rt, "run.rec");
     let last = shell::replay_log(&mut log, made.board);
     let ran = last.ran;
-    if ending::is_over(&rt, "run.rec", last.got.failed, ran.answer) {
+    if ending::is_over(&rt, b"run.rec", last.got.failed, ran.answer) {
         return ExitCode::FAILURE;
     }
     ending::finish(&rt, print_report(&mut io::writer(&rt), ran.board))

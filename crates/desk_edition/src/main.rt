@@ -54,7 +54,7 @@ fn main(rt: HostRuntime) -> ExitCode {
     let mut file = files::open(&rt, "board.set");
     let opened = open_settings(&mut file);
     let read = opened.read;
-    if ending::is_over(&rt, "board.set", opened.failed, read.answer) {
+    if ending::is_over(&rt, b"board.set", opened.failed, read.answer) {
         return ExitCode::FAILURE;
     }
     ending::finish(&rt, print_text(&mut io::writer(&rt), read.settings))

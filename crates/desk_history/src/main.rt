@@ -21,7 +21,7 @@ use std::process::ExitCode;
 use std::rt::{Env, Files};
 use text::{Line, Range};
 
-const USAGE: &str = "usage: desk_history INPUT\n";
+const USAGE: &[u8] = b"usage: desk_history INPUT\n";
 
 // What going through the log gives: the error where reading it failed, its answer, and the store.
 #[derive(Clone, Copy)]
@@ -103,7 +103,7 @@ fn tell<R: Files + Print + Eprint>(rt: &R, fresh: Board, input: usize) -> ExitCo
 {
     let mut log = files::open(rt, "run.rec");
     let pass = go_through(&mut log, fresh, input);
-    if ending::is_over(rt, "run.rec", pass.failed, pass.answer) {
+    if ending::is_over(rt, b"run.rec", pass.failed, pass.answer) {
         return ExitCode::FAILURE;
     }
     ending::finish(rt, print_history(&mut io::writer(rt), pass.store, input))
@@ -113,7 +113,7 @@ fn follow<R: Files + Print + Eprint>(rt: &R, input: usize) -> ExitCode {
     let mut text = files::open(rt, "board.set");
     let opened = shell::open_board(&mut text);
     let made = opened.made;
-    if ending::is_over(rt, "board.set", opened.failed, made.answer) {
+    if ending::is_over(rt, b"board.set", opened.failed, made.answer) {
         return ExitCode::FAILURE;
     }
     if LAST_INPUT < input {

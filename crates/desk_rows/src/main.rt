@@ -129,25 +129,25 @@ fn main(rt: HostRuntime) -> ExitCode {
     let mut text = files::open(&rt, "board.set");
     let opened = shell::open_board(&mut text);
     let made = opened.made;
-    if ending::is_over(&rt, "board.set", opened.failed, made.answer) {
+    if ending::is_over(&rt, b"board.set", opened.failed, made.answer) {
         return ExitCode::FAILURE;
     }
     let mut out = io::writer(&rt);
     let mut log = files::open(&rt, "run.rec");
     let first = go_through(&mut log, made.board, false, &mut out);
-    if ending::is_over(&rt, "run.rec", first.failed, first.answer) {
+    if ending::is_over(&rt, b"run.rec", first.failed, first.answer) {
         return ExitCode::FAILURE;
     }
     let mut again = files::open(&rt, "run.rec");
     let second = go_through(&mut again, made.board, true, &mut out);
     if let Some(error) = second.failed {
-        return ending::stop(&rt, "run.rec", error);
+        return ending::stop(&rt, b"run.rec", error);
     }
     if second.written.is_err() || first.is_same(second) {
         return ending::finish(&rt, second.written);
     }
     ending::complain(
         &rt,
-        "run.rec: changed between its two readings: the rows are of no use\n",
+        b"run.rec: changed between its two readings: the rows are of no use\n",
     )
 }

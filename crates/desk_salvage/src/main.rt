@@ -135,9 +135,9 @@ fn main(rt: HostRuntime) -> ExitCode {
     }
     match ended {
         Ok(()) => ExitCode::SUCCESS,
-        Err(Stop::At(what, error)) => ending::stop(&rt, what, error),
+        Err(Stop::At(what, error)) => ending::stop(&rt, what.as_bytes(), error),
         Err(Stop::Numbers) => {
-            ending::complain(&rt, "run.rec: more records than there are numbers\n")
+            ending::complain(&rt, b"run.rec: more records than there are numbers\n")
         }
     }
 }

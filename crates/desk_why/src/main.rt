@@ -93,7 +93,7 @@ fn tell_log<F: Read, R: Print + Eprint>(rt: &R, log: &mut Option<F>, fresh: Boar
 {
     let found = find(log, fresh);
     if let Some(error) = found.failed {
-        return ending::stop(rt, "run.rec", error);
+        return ending::stop(rt, b"run.rec", error);
     }
     let a = found.answer;
     ending::finish(
@@ -106,7 +106,7 @@ fn main(rt: HostRuntime) -> ExitCode {
     let mut text = files::open(&rt, "board.set");
     let opened = shell::open_board(&mut text);
     if let Some(error) = opened.failed {
-        return ending::stop(&rt, "board.set", error);
+        return ending::stop(&rt, b"board.set", error);
     }
     let made = opened.made;
     let read = made.answer;

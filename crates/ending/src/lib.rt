@@ -33,38 +33,55 @@ impl fmt::Display for Words {
     }
 }
 
+// What a caller says, as it is where it is text: standard error takes text alone.
+#[derive(Clone, Copy)]
+struct Said<'a>(&'a [u8]);
+
+impl fmt::Display for Said<'_> {
+    fn fmt<W: fmt::Write>(&self, f: &mut fmt::Formatter<W>) -> fmt::Result {
+        if let Ok(text) = str::from_utf8(self.0) {
+            return f.write_str(text);
+        }
+        for byte in self.0 {
+            f.write_char(char::from(*byte))?;
+        }
+        Ok(())
+    }
+}
+
 // The status of a program that has written all, or the error that kept it from that. No contract can say what is printed.
 pub fn finish(rt: &impl Eprint, written: io::Result<()>) -> ExitCode
     ensures { exit_status result ≡ if (is_ok written) 0 1 }
 {
     match written {
         Ok(()) => ExitCode::SUCCESS,
-        Err(error) => stop(rt, "standard output", error),
+        Err(error) => stop(rt, b"standard output", error),
     }
 }
 
 // An error of the system's, after what it was about. No contract can say what is printed.
-pub fn stop(rt: &impl Eprint, what: &str, error: Error) -> ExitCode
+pub fn stop(rt: &impl Eprint, what: &[u8], error: Error) -> ExitCode
     ensures { exit_status result ≡ 1 }
 {
+    let what = Said(what);
     let words = Words(error);
     let _ = eprintln!(rt; "{what}: {words}");
     ExitCode::FAILURE
 }
 
 // An error that no call of the system has told. No contract can say what is printed.
-pub fn complain(rt: &impl Eprint, line: &str) -> ExitCode
+pub fn complain(rt: &impl Eprint, line: &[u8]) -> ExitCode
     ensures { exit_status result ≡ 1 }
 {
-    let _ = rt.eprint(line);
+    let _ = rt.eprint(Said(line));
     ExitCode::FAILURE
 }
 
 // Words that a program was called with and cannot use. No contract can say what is printed.
-pub fn misuse(rt: &impl Eprint, line: &str) -> ExitCode
+pub fn misuse(rt: &impl Eprint, line: &[u8]) -> ExitCode
     ensures { exit_status result ≡ 2 }
 {
-    let _ = rt.eprint(line);
+    let _ = rt.eprint(Said(line));
     ExitCode::from(2)
 }
 
@@ -75,12 +92,12 @@ pub fn refuse(rt: &(impl Print + Eprint), a: Answer) -> ExitCode
     let number = a.number();
     match println!(rt; "refused={number}") {
         Ok(()) => ExitCode::FAILURE,
-        Err(error) => stop(rt, "standard output", error),
+        Err(error) => stop(rt, b"standard output", error),
     }
 }
 
 // Whether a program is over after reading a file, of which it has then said why.
-pub fn is_over(rt: &(impl Print + Eprint), file: &str, failed: Option<Error>, a: Answer) -> bool
+pub fn is_over(rt: &(impl Print + Eprint), file: &[u8], failed: Option<Error>, a: Answer) -> bool
     ensures { result ≡ over (is_some failed) (told a) }
 {
     if let Some(error) = failed {
