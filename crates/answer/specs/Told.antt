@@ -1,7 +1,11 @@
 -- Document 01, "Numbers a caller may get back": each refusal's number and what it carries. Every contract speaks by these names.
-use Rattle.std.specs.Prelude.{Bool, List, [], ◌∷◌, ℕ, zero, suc, eqb}
-use Rattle.answer.specs.declared.Answer.{Answer}
-use Rattle.answer.specs.declared.Answer.TheVariants.{Done, Text, Range, Relation, Board, Length, Room, Record, Life, Store}
+use Rattle.std.specs.Prelude.{Bool, List, [], ◌∷◌, ℕ, zero, suc, eqb, Result, Ok, Err}
+use Rattle.answer.specs.declared.Refusal.{Refusal}
+use Rattle.answer.specs.declared.Refusal.TheVariants.{Text, Range, Relation, Board, Length, Room, Record, Life, Store}
+
+-- what a call answers
+abbrev pub Answer : Type 0
+Answer = Result (Unit {0}) Refusal
 
 -- what a caller is told: the number of the table, 0 for a success, and the values that it carries
 pub record Told : Type 0 where
@@ -40,18 +44,21 @@ LIFE = record { number = 8; carries = [] }
 abbrev pub STORE : Told
 STORE = record { number = 9; carries = [] }
 
--- the code's answer, as the table has it
+-- the code's refusal and its answer, as the table has them
+abbrev pub told_refusal : Refusal → Told
+told_refusal (Text line) = TEXT line
+told_refusal (Range line) = RANGE line
+told_refusal (Relation which controller) = RELATION which controller
+told_refusal Board = BOARD
+told_refusal Length = LENGTH
+told_refusal (Room needed) = ROOM needed
+told_refusal (Record index) = RECORD index
+told_refusal Life = LIFE
+told_refusal Store = STORE
+
 abbrev pub told : Answer → Told
-told Done = DONE
-told (Text line) = TEXT line
-told (Range line) = RANGE line
-told (Relation which controller) = RELATION which controller
-told Board = BOARD
-told Length = LENGTH
-told (Room needed) = ROOM needed
-told (Record index) = RECORD index
-told Life = LIFE
-told Store = STORE
+told (Ok done) = DONE
+told (Err refusal) = told_refusal refusal
 
 abbrev pub succeeded : Told → Bool
 succeeded t = eqb t.number 0

@@ -2,11 +2,10 @@
 #![tactic(auto)]
 
 ghost use Rattle.std.specs.Prelude.{◌≡◌};
-ghost use Rattle.answer.specs.Told.{told, succeeded};
+ghost use Rattle.answer.specs.Told.{told, told_refusal};
 
-#[derive(Clone, Copy)]
-pub enum Answer {
-    Done,
+#[derive(Clone, Copy, Debug, PartialEq, Eq)]
+pub enum Refusal {
     // The line of a settings text, counted from 1.
     Text(usize),
     Range(usize),
@@ -22,28 +21,33 @@ pub enum Answer {
     Store,
 }
 
-impl Answer {
-    // Document 01's number of the refusal, or 0.
+pub type Answer = Result<(), Refusal>;
+
+impl Refusal {
+    // Document 01's number of the refusal.
     pub fn number(self) -> u64
-        ensures { result ≡ (told self).number }
+        ensures { result ≡ (told_refusal self).number }
     {
         match self {
-            Answer::Done => 0,
-            Answer::Text(_) => 1,
-            Answer::Range(_) => 2,
-            Answer::Relation(_, _) => 3,
-            Answer::Board => 4,
-            Answer::Length => 5,
-            Answer::Room(_) => 6,
-            Answer::Record(_) => 7,
-            Answer::Life => 8,
-            Answer::Store => 9,
+            Refusal::Text(_) => 1,
+            Refusal::Range(_) => 2,
+            Refusal::Relation(_, _) => 3,
+            Refusal::Board => 4,
+            Refusal::Length => 5,
+            Refusal::Room(_) => 6,
+            Refusal::Record(_) => 7,
+            Refusal::Life => 8,
+            Refusal::Store => 9,
         }
     }
+}
 
-    pub fn is_done(self) -> bool
-        ensures { result ≡ succeeded (told self) }
-    {
-        self.number() == 0
+// The number of what a caller is told, 0 where the call was done.
+pub fn number(answer: Answer) -> u64
+    ensures { result ≡ (told answer).number }
+{
+    match answer {
+        Ok(()) => 0,
+        Err(refusal) => refusal.number(),
     }
 }
