@@ -18,7 +18,7 @@ use cycle::{ARMED, NONE, OPEN, asks_trigger, cycle_code, kept, opened};
 use settings::{Gap, Schedule, Waits};
 use states::{CALIBRATE, START, WARN};
 
-#[derive(Clone, Copy, Default)]
+#[derive(Clone, Copy, Debug, Default, PartialEq, Eq)]
 pub struct Ptc {
     pub state: u8,
     pub wait: u32,
