@@ -67,6 +67,9 @@ digits_within =
     (λ n h k pos lt. rw (decimal_small n h) pos)
     (λ n h ih k pos lt. rw (decimal_large n h, length-append) (one_more n k h ih lt))
 
+pub digits_most : (n : ℕ) → n < 2 ^ 64 → length (decimal n) ≤ 20
+digits_most n h = digits_within n 20 (lit< tt) (omega arith)
+
 pub one_digit : (n : ℕ) → n < 10 → length (decimal n) ≡ 1
 one_digit n h = rw (decimal_small n h)
 

@@ -103,6 +103,7 @@ pub fn width(n: u64) -> usize
 }
 
 // Lays bytes into the buffer, and answers the place after them.
+#[tactic(auto, unfolding(crate::specs::Bytes::put))]
 pub fn put_bytes(out: &mut [u8], at: usize, s: &[u8]) -> usize
     requires { at + length s.now ≤ length out.old }
     ensures { (result ≡ at + length s.now) × (out.new ≡ put out.old at s.now) }
