@@ -1,7 +1,7 @@
 // What the inputs are believed to carry (document 02, P1): a code counts when the same input carried it in two consecutive crossings.
 #![tactic(auto)]
 
-ghost use Rattle.std.specs.Prelude.{◌≡◌, true, ◌<◌, length};
+ghost use Rattle.std.specs.Prelude.{◌≡◌, true, ℕ, ◌<◌, length, get_or};
 ghost use Rattle.words.specs.Same.{same_bytes};
 ghost use Rattle.steady.specs.Steady.{steady, steady_byte};
 ghost use Rattle.steady.specs.Held.{fresh_held, next_held, sound_held};
@@ -53,11 +53,12 @@ impl Held {
         self.carried[0] < 16 && self.believed[0] < 16
     }
 
-    // Whether all that was carried is believed.
+    // Whether all that was carried is believed. That held codes are bytes is told on: two codes in a byte are 0 to 15 then.
     pub fn is_firm(&self) -> bool
-        ensures { result ≡ same_bytes 21 self.now.carried self.now.believed }
+        ensures { (result ≡ same_bytes 21 self.now.carried self.now.believed) × ((n : ℕ) → get_or self.now.carried n 0 < 256) × ((n : ℕ) → get_or self.now.believed n 0 < 256) }
     {
-        words::same(&self.carried, &self.believed)
+        let Held { carried, believed } = self;
+        words::same(carried, believed)
     }
 
     fn believe(&mut self, codes: &[u8])

@@ -1,10 +1,10 @@
--- `records::refusal` meets its contract: each early return is the first test of the definition that fails.
+-- `records::test_block` meets its contract: each early return is the first test of the definition that fails.
 -- The sum fits, since there are no more crossings than records.
 use native.Mathlib.Omega.{arith}
 use Rattle.laws.proofs.Tests.{tests}
 use Rattle.records.specs.Refusal.{refusal_of, records_in}
 use Rattle.records.proofs.Laws.{crossings_le}
-use Rattle.records.proofs.refusal.Goals as goal
+use Rattle.records.proofs.test_block.Goals as goal
 
 pub returns-then-log-ne0 : goal.returns-then-log-ne0
 unfolding refusal_of
