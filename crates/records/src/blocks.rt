@@ -3,7 +3,7 @@ ghost use Rattle.std.specs.Prelude.{◌≡◌, ◌+◌, ◌≤◌, min};
 ghost use Rattle.records.specs.Refusal.{LIFETIME};
 ghost use Rattle.records.specs.Support.Blocks.{block_count, tested_out, tested_of};
 
-use crate::{RECORD, crossings_in, test_block};
+use crate::{RECORD, crossings_in, refusal};
 use answer::Answer;
 
 // How many records a block has, their bytes, and those of their rows.
@@ -41,8 +41,8 @@ pub fn test_blocks(first: u64, log: &[u8], room: usize) -> Tested
     while BLOCK * i < log.len() {
         let at = BLOCK * i;
         let end = block_end(at, log.len());
-        let a = test_block(done, &log[at..end], room - BLOCK_ROWS * i);
-        let refused = a.is_err();
+        let a = refusal(done, &log[at..end], room - BLOCK_ROWS * i);
+        let refused = !a.is_done();
         if refused {
             return Tested {
                 answer: a,
@@ -54,7 +54,7 @@ pub fn test_blocks(first: u64, log: &[u8], room: usize) -> Tested
         i += 1;
     }
     Tested {
-        answer: Ok(()),
+        answer: Answer::Done,
         records: log.len() / RECORD,
     }
 }

@@ -10,7 +10,7 @@ ghost use Rattle.answer.specs.Told.{told};
 ghost use Rattle.records.specs.Records.{asked_in, well_crossing, well_command, well, first_ill, crossings_in};
 ghost use Rattle.records.specs.Refusal.{LIFETIME, refusal_of};
 
-use answer::{Answer, Refusal};
+use answer::Answer;
 pub use blocks::{Tested, test_blocks};
 pub use rows::{carries, command_row, crossing_row, put_row, row_byte};
 
@@ -112,23 +112,23 @@ pub(crate) fn crossings_in(log: &[u8], n: usize) -> u64
 }
 
 // What a block is refused for on a sound board: LENGTH, ROOM, RECORD, LIFE, in that order. It touches nothing.
-pub fn test_block(done: u64, log: &[u8], room: usize) -> Answer
+pub fn refusal(done: u64, log: &[u8], room: usize) -> Answer
     requires { done ≤ LIFETIME }
     ensures { told result ≡ refusal_of done log.now room }
 {
     let n = log.len() / RECORD;
     if log.len() % RECORD != 0 {
-        return Err(Refusal::Length);
+        return Answer::Length;
     }
     if room < ROW * n {
-        return Err(Refusal::Room(ROW * n));
+        return Answer::Room(ROW * n);
     }
     let ill = first_ill(log, n);
     if ill != n {
-        return Err(Refusal::Record(ill));
+        return Answer::Record(ill);
     }
     if done + crossings_in(log, n) <= LIFETIME {
-        return Ok(());
+        return Answer::Done;
     }
-    Err(Refusal::Life)
+    Answer::Life
 }

@@ -29,6 +29,14 @@ fn byte(carried: u8, believed: u8, now: u8) -> u8
     low + 16 * high
 }
 
+// Whether all that was carried is believed. Lent codes are bytes, which is told on: two codes in a byte are 0 to 15 then.
+pub fn is_firm(carried: &[u8], believed: &[u8]) -> bool
+    requires { (length carried.now ≡ 21) × (length believed.now ≡ 21) }
+    ensures { (result ≡ same_bytes 21 carried.now believed.now) × ((n : ℕ) → get_or carried.now n 0 < 256) × ((n : ℕ) → get_or believed.now n 0 < 256) }
+{
+    words::same(carried, believed)
+}
+
 // What following a crossing's codes tells: whether the believed ones stayed, and whether all that it carried are believed now.
 #[derive(Clone, Copy)]
 pub struct News {
@@ -51,14 +59,6 @@ impl Held {
         ensures { result ≡ sound_held self }
     {
         self.carried[0] < 16 && self.believed[0] < 16
-    }
-
-    // Whether all that was carried is believed. That held codes are bytes is told on: two codes in a byte are 0 to 15 then.
-    pub fn is_firm(&self) -> bool
-        ensures { (result ≡ same_bytes 21 self.now.carried self.now.believed) × ((n : ℕ) → get_or self.now.carried n 0 < 256) × ((n : ℕ) → get_or self.now.believed n 0 < 256) }
-    {
-        let Held { carried, believed } = self;
-        words::same(carried, believed)
     }
 
     fn believe(&mut self, codes: &[u8])

@@ -66,8 +66,7 @@ pub returns : goal.returns
 returns c =
     let a = c.args in
     let p = c.requires in
-    let e = rw (lent a.rec.now p.0) at c.follow-news.ensures in
-    (
+    let e = rw (lent a.rec.now p.0) at c.follow-news.ensures in (
       sight_is a.held.now a.rec.now p.1 p.2 p.3 _ _ e.0 e.1 a.busy.now _ _ a.clock _ a.calm _ _ _ _ _ _ c.classes_of-classes.ensures c.ends_orbit.ensures
           c.turned.ensures c.number-number.ensures c.both.ensures c.due.ensures,
       e.1,
