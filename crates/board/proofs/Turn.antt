@@ -9,7 +9,6 @@ use native.Mathlib.Numerals.{add-one}
 use native.Mathlib.Omega.{arith}
 use lib.Dec.{ltb}
 use lib.ListN.{length, get_or, set, take, drop, replicate, length-append, length-drop}
-use borrow.Author.Tests.{eq-eqb, ne_eqb}
 use borrow.Rule.Slice.PartMut.{put_mid}
 use Rattle.laws.specs.Base.{map_i, one, all_b}
 use Rattle.laws.proofs.Bools.{both}
@@ -36,15 +35,13 @@ use Rattle.ptc.specs.declared.Plan.{Plan}
 use Rattle.ptc.specs.Support.Times.{plan_from}
 use Rattle.ptc.specs.declared.Scene.{Scene}
 use Rattle.ptc.specs.declared.Crossed.{Crossed}
-use Rattle.ptc.specs.declared.Commanded.{Commanded}
 use Rattle.ptc.specs.Support.Room.{Room}
-use Rattle.ptc.specs.Support.Rest.{at_rest}
 use Rattle.ptc.specs.Fresh.{fresh_ptc}
 use Rattle.ptc.specs.Command.{commanded_of}
 use Rattle.records.specs.Records.{rec_at, is_crossing, marker_in, asked_in, codes_in, well, first_ill, crossings_in}
 use Rattle.records.specs.Refusal.{LIFETIME}
 use Rattle.records.specs.Rows.{row_byte, carries, crossing_row, command_row}
-use Rattle.records.proofs.Laws.{rec_long, rec_byte, rec_bytes, well_at_lem, command_kind}
+use Rattle.records.proofs.Laws.{rec_long, rec_bytes, well_at_lem, command_kind}
 use Rattle.records.proofs.Laid.{laid}
 use Rattle.kit.specs.declared.Kit.{Kit}
 use Rattle.kit.specs.Kit.{plan_of}
@@ -92,6 +89,10 @@ pub record Stands (first : Board) (log old : List ℕ) (kit : Kit) (b : Board) (
   pub laid_out : rows ≡ rows_of i first log ++ drop (12 * i) old
   pub long : length rows ≡ length old
   pub watched : Watches kit b w
+
+pub begins : (first : Board) (log old : List ℕ) (kit : Kit) (w : Watch) → Watches kit first w → Stands first log old kit first old w 0
+unfolding ran rows_of
+begins first log old kit w q = record { board = refl; laid_out = refl; long = refl; watched = q }
 
 -- the block that is run, which is not refused
 pub record Begun (first : Board) (log old : List ℕ) (kit : Kit) (busy : List ℕ) (n : ℕ) : Type 0 where
@@ -158,18 +159,20 @@ module _ (b : Board) (kit : Kit) (rec : List ℕ) (made : kit ≡ kit_of b.setti
   obeyed p taken row e t r = (rw (kind, e, made), rw (kind, r, t, made))
 
 -- after a command nothing is known of the rest
-pub watches_obeyed : (kit : Kit) (b next : Board) (w : Watch) → Watches kit b w → next.turn ≡ b.turn → next.held ≡ b.held
+pub watches_obeyed : (kit : Kit) (b next : Board) (w : Watch) (rec : List ℕ) → is_crossing rec ≡ false → next ≡ stepped b rec → Watches kit b w
     → Watches kit next (record { sight = w.sight; shown = w.shown; calm = false })
-watches_obeyed kit b next w q t h =
-    record {
-      turn = q.turn ∙ sym t;
+unfolding stepped commanded_by
+watches_obeyed kit b next w rec kind e q =
+    rw (e, kind)
+    (record {
+      turn = q.turn;
       wide = q.wide;
-      carried = rw h q.carried;
-      believed = rw h q.believed;
-      votes = rw h q.votes;
-      firm = rw h q.firm;
+      carried = q.carried;
+      believed = q.believed;
+      votes = q.votes;
+      firm = q.firm;
       still = λ z. absurd (false≢true z);
-    }
+    })
 
 -- ---- a crossing
 

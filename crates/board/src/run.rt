@@ -1,6 +1,6 @@
 // The records of a block that is not refused, each answered by a row where the last row ended. No board is copied: one controller at a
 // time is copied out, changed and put back, and controllers that nothing happens to are passed over.
-ghost use Rattle.std.specs.Prelude.{◌≡◌, true, ◌++◌, ◌+◌, ◌*◌, ◌<◌, ◌≤◌, length, get_or, drop};
+ghost use Rattle.std.specs.Prelude.{◌≡◌, true, false, ◌++◌, ◌+◌, ◌*◌, ◌<◌, ◌≤◌, length, get_or, drop};
 ghost use Rattle.kit.specs.Support.Laid.{kit_of};
 ghost use Rattle.records.specs.Records.{is_crossing, well, first_ill, crossings_in};
 ghost use Rattle.records.specs.Refusal.{LIFETIME, records_in};
@@ -33,17 +33,13 @@ impl Board {
     }
 
     // A crossing, and its row. Only the controllers that are due are looked at.
-    fn cross(
-        &mut self,
-        kit: &Kit,
-        busy: &[u8; 4096],
-        watch: &mut Watch,
-        rec: &[u8],
-    ) -> [u8; 12]
+    fn cross(&mut self, kit: &Kit, busy: &[u8; 4096], watch: &mut Watch, rec: &[u8]) -> [u8; 12]
         requires { (Comes kit.now busy.now self.old watch.old rec.now) × (is_crossing rec.now ≡ true) }
         ensures { (self.new ≡ stepped self.old rec.now) × (result ≡ row_of self.old rec.now) × Watches kit.now self.new watch.new }
     {
-        let sight = watch.sight.next(kit, busy, self.clock, watch.calm, &mut self.held, rec);
+        let sight = watch
+            .sight
+            .next(kit, busy, self.clock, watch.calm, &mut self.held, rec);
         let holder = self.ptcs[(sight.turn.holder % 8) as usize];
         let scene = sight.scene(kit, holder, &self.marks, self.clock);
         let mut bytes = [0u8; 8];
@@ -52,8 +48,9 @@ impl Board {
         while k < 8 {
             let class = sight.classes[k];
             let asked = records::asked(sight.requests, k);
-            let crossed = self.ptcs[k]
-                .crossed(&kit.times, kit.waits, kit.gap, scene, k as u32, class, asked);
+            let crossed = self.ptcs[k].crossed(
+                &kit.times, kit.waits, kit.gap, scene, k as u32, class, asked,
+            );
             self.ptcs[k] = crossed.ptc;
             bytes[k] = records::row_byte(crossed.code, crossed.sent, crossed.cal);
             watch.shown[k] = states::status(crossed.ptc.state);
@@ -69,13 +66,7 @@ impl Board {
         records::crossing_row(bytes, watch.shown)
     }
 
-    fn step(
-        &mut self,
-        kit: &Kit,
-        busy: &[u8; 4096],
-        watch: &mut Watch,
-        rec: &[u8],
-    ) -> [u8; 12]
+    fn step(&mut self, kit: &Kit, busy: &[u8; 4096], watch: &mut Watch, rec: &[u8]) -> [u8; 12]
         requires { Comes kit.now busy.now self.old watch.old rec.now }
         ensures { (self.new ≡ stepped self.old rec.now) × (result ≡ row_of self.old rec.now) × Watches kit.now self.new watch.new }
     {

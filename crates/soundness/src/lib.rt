@@ -19,10 +19,20 @@ pub fn is_sound(
 ) -> bool
     ensures { result ≡ sound_parts settings.now clock turn ptcs.now held marks.now }
 {
-    settings.check().is_ok()
-        && clock.is_sound(records::LIFETIME, settings.orbit())
-        && turn.is_sound(&kit::slots_of(*settings))
-        && eight::are_sound(ptcs, turn.holder, clock.crossings)
-        && held.is_sound()
-        && throttle::is_sound(marks, clock.crossings)
+    if settings.check().is_err() {
+        return false;
+    }
+    if !clock.is_sound(records::LIFETIME, settings.orbit()) {
+        return false;
+    }
+    if !turn.is_sound(&kit::slots_of(*settings)) {
+        return false;
+    }
+    if !eight::are_sound(ptcs, turn.holder, clock.crossings) {
+        return false;
+    }
+    if !held.is_sound() {
+        return false;
+    }
+    throttle::is_sound(marks, clock.crossings)
 }

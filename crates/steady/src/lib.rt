@@ -1,7 +1,7 @@
 // What the inputs are believed to carry (document 02, P1): a code counts when the same input carried it in two consecutive crossings.
 #![tactic(auto)]
 
-ghost use Rattle.std.specs.Prelude.{◌≡◌, true, ◌<◌, length};
+ghost use Rattle.std.specs.Prelude.{◌≡◌, true, ℕ, ◌<◌, length, get_or};
 ghost use Rattle.words.specs.Same.{same_bytes};
 ghost use Rattle.steady.specs.Steady.{steady, steady_byte};
 ghost use Rattle.steady.specs.Held.{fresh_held, next_held, sound_held};
@@ -29,6 +29,14 @@ fn byte(carried: u8, believed: u8, now: u8) -> u8
     low + 16 * high
 }
 
+// Whether all that was carried is believed. Lent codes are bytes, which is told on: two codes in a byte are 0 to 15 then.
+pub fn is_firm(carried: &[u8], believed: &[u8]) -> bool
+    requires { (length carried.now ≡ 21) × (length believed.now ≡ 21) }
+    ensures { (result ≡ same_bytes 21 carried.now believed.now) × ((n : ℕ) → get_or carried.now n 0 < 256) × ((n : ℕ) → get_or believed.now n 0 < 256) }
+{
+    words::same(carried, believed)
+}
+
 // What following a crossing's codes tells: whether the believed ones stayed, and whether all that it carried are believed now.
 #[derive(Clone, Copy)]
 pub struct News {
@@ -51,13 +59,6 @@ impl Held {
         ensures { result ≡ sound_held self }
     {
         self.carried[0] < 16 && self.believed[0] < 16
-    }
-
-    // Whether all that was carried is believed.
-    pub fn is_firm(&self) -> bool
-        ensures { result ≡ same_bytes 21 self.now.carried self.now.believed }
-    {
-        words::same(&self.carried, &self.believed)
     }
 
     fn believe(&mut self, codes: &[u8])

@@ -2,10 +2,10 @@
 // controller where it was, and then only those that ask matter.
 #![tactic(auto)]
 
-ghost use Rattle.std.specs.Prelude.{◌≡◌, true, not, ◌||◌, ℕ, ◌%◌, ◌<◌, ◌≤◌, eqb, length, get_or};
+ghost use Rattle.std.specs.Prelude.{◌≡◌, true, not, ◌||◌, ◌%◌, ◌<◌, ◌≤◌, eqb, length, get_or};
 ghost use Rattle.status.specs.Codes.{Coded};
 ghost use Rattle.lanes.specs.Support.Lanes.{lane_classes};
-ghost use Rattle.steady.specs.Held.{next_held};
+ghost use Rattle.steady.specs.Held.{next_held, AreBytes};
 ghost use Rattle.throttle.specs.Rules.{Sensible};
 ghost use Rattle.clock.specs.Support.Room.{SlotRoom};
 ghost use Rattle.states.specs.Moves.{moved_of};
@@ -77,15 +77,15 @@ fn classes_of(table: &[u64; 656], before: [u8; 8], stays: bool, believed: &[u8; 
 }
 
 impl Sight {
-    // Before the first record, by the codes that are held. That held codes are bytes is told on.
+    // Before the first record, by the codes that are held. That they are 21 bytes is told on.
     pub fn first(turn: Turn, kit: &Kit, held: &Held) -> Sight
         requires { get_or held.now.believed 0 0 < 16 }
-        ensures { (result ≡ first_sight turn kit.now.lanes held.now.carried held.now.believed) × ((n : ℕ) → get_or held.now.carried n 0 < 256) × ((n : ℕ) → get_or held.now.believed n 0 < 256) }
+        ensures { (result ≡ first_sight turn kit.now.lanes held.now.carried held.now.believed) × AreBytes held.now.carried × AreBytes held.now.believed }
     {
         Sight {
             turn,
             classes: lanes::merge(&kit.lanes, &held.believed),
-            firm: held.is_firm(),
+            firm: steady::is_firm(&held.carried, &held.believed),
             marker: false,
             requests: 0,
             due: 0,

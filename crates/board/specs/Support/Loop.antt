@@ -1,5 +1,5 @@
 -- What the loop over the records of a block keeps beside the board, and what it knows of a record that comes.
-use Rattle.std.specs.Prelude.{◌≡◌, ℕ, ◌<◌, Bool, true, List, length, get_or}
+use Rattle.std.specs.Prelude.{◌≡◌, ℕ, ◌<◌, true, List, length, get_or}
 use Rattle.status.specs.Codes.{Coded}
 use Rattle.lanes.specs.Support.Lanes.{lane_classes}
 use Rattle.states.specs.Names.{status_of}

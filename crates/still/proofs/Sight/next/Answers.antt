@@ -3,9 +3,11 @@
 use mathlib.Core.Path.{◌≡◌, ap, sym, ◌∙◌}
 use mathlib.Core.Bool.{Bool, true, ◌&&◌}
 use mathlib.Core.List.{List}
-use Prim.Native.Nat.{ℕ, ◌<◌}
+use Prim.Native.Nat.{ℕ, ◌-◌, ◌<◌}
+use native.Mathlib.Omega.{arith}
 use lib.Dec.{eqb}
-use lib.ListN.{length, get_or, drop}
+use lib.ListN.{length, get_or, take, drop, length-drop}
+use lib.Seq.{take_all}
 use Rattle.status.specs.Codes.{Coded}
 use Rattle.lanes.specs.Support.Lanes.{lane_classes}
 use Rattle.words.proofs.Laws.{same_lists}
@@ -45,11 +47,27 @@ module _ (held : Held) (rec : List ℕ) (n : Coded (codes_in rec)) (c : Coded he
   unfolding sight_of news_of next_held
   sight_is busy table slots clock old calm turn classes still ends number due c e t n f d = rw (d, f, n, t, e, c, moved, told)
 
+-- what is lent of a record past its third byte
+lent : (rec : List ℕ) → length rec ≡ 24 → take (length rec - 3) (drop 3 rec) ≡ codes_in rec
+lent rec long = take_all (length rec - 3) (drop 3 rec) (rw length-drop (omega arith))
+
 pub follow-news-requires : goal.follow-news-requires
-follow-news-requires c = ?
+follow-news-requires c =
+    let p = c.requires in
+    (ap length (lent c.args.rec.now p.0) ∙ p.1.long, p.5)
 
 pub classes_of-classes-requires : goal.classes_of-classes-requires
-classes_of-classes-requires c = ?
+classes_of-classes-requires c =
+    let p = c.requires in
+    let e = rw (lent c.args.rec.now p.0) at c.follow-news.ensures in
+    merge_asked c.args.held.now c.args.rec.now p.1 p.2 p.3 _ _ e.0 e.1 _ _ p.4
 
 pub returns : goal.returns
-returns c = ?
+returns c =
+    let a = c.args in
+    let p = c.requires in
+    let e = rw (lent a.rec.now p.0) at c.follow-news.ensures in (
+      sight_is a.held.now a.rec.now p.1 p.2 p.3 _ _ e.0 e.1 a.busy.now _ _ a.clock _ a.calm _ _ _ _ _ _ c.classes_of-classes.ensures c.ends_orbit.ensures
+          c.turned.ensures c.number-number.ensures c.both.ensures c.due.ensures,
+      e.1,
+    )
