@@ -7,7 +7,7 @@ ghost use Rattle.history.specs.Read.{bytes_of_all, read_bytes, read_length, read
 
 use crate::scan::walk;
 use crate::{Scan, Store, WORDS};
-use answer::Answer;
+use answer::{Answer, Refusal};
 
 // Lays the bytes of a word that is a change, and answers the place after them; any other word has none.
 fn put_word(out: &mut [u8], at: usize, q: Scan, word: u16) -> usize
@@ -58,13 +58,13 @@ impl Store {
         ensures { read_out result out.new ≡ read_of self out.old }
     {
         if !self.is_sound() {
-            return Answer::Store;
+            return Err(Refusal::Store);
         }
         let needed = self.read_length();
         if out.len() < needed {
-            return Answer::Room(needed);
+            return Err(Refusal::Room(needed));
         }
         self.put_changes(out);
-        Answer::Done
+        Ok(())
     }
 }
