@@ -1,4 +1,4 @@
--- The words of a ring as a list: its length, a place modulo 1,024, words dropped in front and one laid behind, and a walk word by word.
+-- The words of a ring as a list: its length, a place modulo 1,024, words dropped in front and one laid behind, and the words one by one.
 -- By induction on how many words are in use.
 use mathlib.Core.Path.{◌≡◌, refl, sym, subst, ap, ap₂}
 use mathlib.Core.Logic.{◌≢◌}

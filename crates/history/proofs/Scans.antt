@@ -1,4 +1,4 @@
--- A scan over words laid end to end, one word further along the ring, and what a word can do to it.
+-- A scan over words laid end to end, the bytes of the changes in them, and what a word can do to it.
 -- By the definitions; a word that makes no group leaves the scan lost for good.
 use mathlib.Core.Path.{◌≡◌, refl, ap, sym, ◌∙◌}
 use mathlib.Core.Logic.{◌⊎◌, inl, inr}

@@ -19,7 +19,7 @@ pub use scan::{Scan, Tally};
 pub const WORDS: usize = 1024;
 
 // A ring: the words in use are those from the place of the oldest on.
-#[derive(Clone, Copy)]
+#[derive(Clone, Copy, Debug, PartialEq, Eq)]
 pub struct Store {
     pub words: [u16; WORDS],
     pub oldest: usize,
