@@ -33,10 +33,8 @@ impl Settings {
     fn first_out(&self) -> Option<usize>
         ensures { result ≡ line_found (out_of_range self.now) }
     {
-        let lows = keys::low_values();
-        let highs = keys::high_values();
         for (n, value) in self.values.iter().enumerate() {
-            if !keys::range(&lows, &highs, n + 1).holds(*value) {
+            if !keys::range(n + 1).holds(*value) {
                 return Some(n + 2);
             }
         }
