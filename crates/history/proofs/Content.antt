@@ -1,9 +1,9 @@
--- The words of a ring as a list: its length, a place modulo 1,024, words dropped in front and one laid behind, and a walk word by word.
+-- The words of a ring as a list: its length, a place modulo 1,024, words dropped in front and one laid behind, and the words one by one.
 -- By induction on how many words are in use.
 use mathlib.Core.Path.{◌≡◌, refl, sym, subst, ap, ap₂}
 use mathlib.Core.Logic.{◌≢◌}
 use mathlib.Core.List.{List, [], ◌∷◌, ◌++◌}
-use Prim.Native.Nat.{ℕ, zero, suc, ◌+◌, ◌-◌, ◌%◌, ◌≤◌, ◌<◌}
+use Prim.Native.Nat.{ℕ, zero, suc, ◌+◌, ◌-◌, ◌%◌, ◌<◌}
 use native.Mathlib.Nat.{add-zero, sub-zero}
 use native.Mathlib.Omega.{arith}
 use lib.ListN.{length, get_or, set, drop}
@@ -41,14 +41,15 @@ module _ (ws : List ℕ) where
       let f : o + suc n ≡ suc o + n = omega arith in
       ap₂ (λ (a : ℕ) (r : List ℕ). a ∷ r) (get_or-set_other ws ((o + suc n) % 1024) (o % 1024) w 0 d) (subst (λ (i : ℕ). content (set ws (i % 1024) w) (suc o) (suc n) ≡ content ws (suc o) n ++ (w ∷ [])) (sym f) (content_push l (suc o) n w (omega arith)))
 
-  -- a walk along the words
-  pub content_next : (o n i : ℕ) → i < n → content ws (o + i) (n - i) ≡ get_or ws ((o + i) % 1024) 0 ∷ content ws (o + (i + 1)) (n - (i + 1))
+  -- the words one by one: the first and those behind it, or none
+  pub content_first : (o n : ℕ) → o < 1024 → 0 < n → content ws o n ≡ get_or ws o 0 ∷ content ws ((o + 1) % 1024) (n - 1)
   unfolding content
-  content_next o n i h =
-      let q : n - i ≡ suc (n - (i + 1)) = omega arith in
-      let f : o + (i + 1) ≡ suc (o + i) = omega arith in
-      rw (q, f)
+  content_first o zero h p = absurd (omega arith)
+  content_first o (suc n) h p =
+      let q : o % 1024 ≡ o = omega arith in
+      let f : suc n - 1 ≡ n = omega arith in
+      rw (q, f) (ap (λ (r : List ℕ). get_or ws o 0 ∷ r) (content_mod (suc o) ((o + 1) % 1024) n (omega arith)))
 
-  pub content_none : (o n i : ℕ) → n ≤ i → content ws (o + i) (n - i) ≡ []
+  pub content_none : (o n : ℕ) → n ≡ 0 → content ws o n ≡ []
   unfolding content
-  content_none o n i h = let q : n - i ≡ 0 = omega arith in rw q
+  content_none o n e = rw e
