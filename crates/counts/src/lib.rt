@@ -12,7 +12,7 @@ use fates::{CAL, FIRST, FOURTH, GAP, SECOND, SLOT, STATE, THIRD};
 pub use fates::{SENT, fate};
 
 // Requests that a rule of the throttle refused, by the first that did.
-#[derive(Clone, Copy, Default)]
+#[derive(Clone, Copy, Debug, Default, PartialEq, Eq)]
 pub struct ByRule {
     pub first: u64,
     pub second: u64,
@@ -21,7 +21,7 @@ pub struct ByRule {
 }
 
 // Requests that were lost, by cause; those of the throttle also by rule.
-#[derive(Clone, Copy, Default)]
+#[derive(Clone, Copy, Debug, Default, PartialEq, Eq)]
 pub struct Lost {
     pub state: u64,
     pub slot: u64,
@@ -32,7 +32,7 @@ pub struct Lost {
 }
 
 // Calibration triggers, which balance apart.
-#[derive(Clone, Copy, Default)]
+#[derive(Clone, Copy, Debug, Default, PartialEq, Eq)]
 pub struct Calibrations {
     pub requested: u64,
     pub accepted: u64,
@@ -40,7 +40,7 @@ pub struct Calibrations {
 }
 
 // Since START, or the fresh board.
-#[derive(Clone, Copy, Default)]
+#[derive(Clone, Copy, Debug, Default, PartialEq, Eq)]
 pub struct Counts {
     pub requested: u64,
     pub accepted: u64,

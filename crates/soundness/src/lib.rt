@@ -10,31 +10,19 @@ use settings::Settings;
 use steady::Held;
 
 pub fn is_sound(
-    settings: Settings,
+    settings: &Settings,
     clock: Clock,
     turn: Turn,
-    ptcs: [Ptc; 8],
+    ptcs: &[Ptc; 8],
     held: Held,
     marks: &[u64; 32],
 ) -> bool
-    ensures { result ≡ sound_parts settings clock turn ptcs held marks.now }
+    ensures { result ≡ sound_parts settings.now clock turn ptcs.now held marks.now }
 {
-    let a = settings.check();
-    if !a.is_done() {
-        return false;
-    }
-    if !clock.is_sound(records::LIFETIME, settings.orbit()) {
-        return false;
-    }
-    let slots = kit::slots_of(settings);
-    if !turn.is_sound(&slots) {
-        return false;
-    }
-    if !eight::are_sound(ptcs, turn.holder, clock.crossings) {
-        return false;
-    }
-    if !held.is_sound() {
-        return false;
-    }
-    throttle::is_sound(marks, clock.crossings)
+    settings.check().is_ok()
+        && clock.is_sound(records::LIFETIME, settings.orbit())
+        && turn.is_sound(&kit::slots_of(*settings))
+        && eight::are_sound(ptcs, turn.holder, clock.crossings)
+        && held.is_sound()
+        && throttle::is_sound(marks, clock.crossings)
 }
