@@ -4,11 +4,11 @@ use mathlib.Core.Path.{◌≡◌, refl, ap, ap₂, sym, ◌∙◌}
 use mathlib.Core.Logic.{◌⊎◌, ⊎_elim}
 use mathlib.Core.Bool.{Bool, true, false, not, ◌||◌, false≢true}
 use mathlib.Core.List.{List, [], ◌∷◌, ◌++◌}
-use Prim.Native.Nat.{ℕ, zero, suc, ◌+◌, ◌-◌, ◌*◌, ◌%◌, ◌≤◌, ◌<◌, min}
-use native.Mathlib.Nat.{add-zero, add-suc, zero-add, zero-min, min-zero, suc-min-suc}
+use Prim.Native.Nat.{ℕ, zero, suc, ◌+◌, ◌-◌, ◌*◌, ◌%◌, ◌≤◌, ◌<◌}
+use native.Mathlib.Nat.{add-zero, add-suc, zero-add}
 use native.Mathlib.Numerals.{add-one}
 use native.Mathlib.Omega.{arith}
-use borrow.Author.Tests.{lt-ltb, le-ltb, leb-true, eqb-true, eqb-false}
+use borrow.Author.Tests.{lt-ltb, le-ltb, leb-true, ltb-true, eqb-true, eqb-false}
 use lib.Dec.{leb, eqb, ltb}
 use lib.ListN.{length, get_or, take, drop, length-take, length-drop, get_or-eq_default}
 use lib.Seq.{ext_get_or, get_or-take, get_or-drop, take-take, drop-drop, take-append_seam, drop_at}
@@ -63,28 +63,13 @@ module _ (a b : List ℕ) where
     pub rec_rest : (i : ℕ) → rec_at (a ++ b) (records_in a + i) ≡ rec_at b i
     rec_rest i = rec_cut (a ++ b) (records_in a) i ∙ ap (λ (l : List ℕ). rec_at l i) rest_left
 
--- what code lends of a log from a place on, w bytes or what is left
-take_least : (n : ℕ) (l : List ℕ) → take (min n (length l)) l ≡ take n l
-take_least zero l = rw zero-min
-take_least (suc n) [] = rw min-zero
-take_least (suc n) (x ∷ l) = rw suc-min-suc (ap (λ (k : List ℕ). x ∷ k) (take_least n l))
-
-pub part_lent : (w at end : ℕ) (log : List ℕ) → end ≡ min (at + w) (length log) → take (end - at) (drop at log) ≡ take w (drop at log)
-part_lent w at end log e =
-    let to : end - at ≡ min w (length (drop at log)) = rw length-drop (omega arith) in
-    rw to (take_least w (drop at log))
-
--- what code lends of a block for record i
-pub lent : (log : List ℕ) (i : ℕ) → take (24 * i + 24 - 24 * i) (drop (24 * i) log) ≡ rec_at log i
-lent log i = let e : 24 * i + 24 - 24 * i ≡ 24 = omega arith in rw e
-
 first_codes : (l : List ℕ) → take 21 (drop 3 l) ≡ drop 3 (take 24 l)
 first_codes [] = refl
 first_codes (a ∷ []) = refl
 first_codes (a ∷ b ∷ []) = refl
 first_codes (a ∷ b ∷ c ∷ l) = refl
 
--- and for its codes
+-- what code lends of a block for a record's codes
 pub codes_lent : (log : List ℕ) (i : ℕ) → take (24 * i + 24 - (24 * i + 3)) (drop (24 * i + 3) log) ≡ codes_in (rec_at log i)
 codes_lent log i = let e : 24 * i + 24 - (24 * i + 3) ≡ 21 = omega arith in rw (e, ← drop-drop 3 (24 * i) log) (first_codes (drop (24 * i) log))
 
@@ -96,7 +81,7 @@ pub all_formed : (n : ℕ) (log : List ℕ) → ((i : ℕ) → i < n → well (r
 all_formed n log w = first_none (λ i. well (rec_at log i)) n 0 (λ i h. rw zero-add (w i h)) ∙ zero-add n
 
 -- crossings are counted record by record
-pub crossings_step : (n : ℕ) (log : List ℕ) → crossings_in (n + 1) log ≡ crossings_in n log + one (is_crossing (rec_at log n))
+crossings_step : (n : ℕ) (log : List ℕ) → crossings_in (n + 1) log ≡ crossings_in n log + one (is_crossing (rec_at log n))
 unfolding crossings_in
 crossings_step n log = rw add-one
 
@@ -130,17 +115,15 @@ unfolding crossings_in
 crossings_start log l zero h = refl
 crossings_start log l (suc n) h = rw (crossings_start log l n (omega arith), rec_start log l n (omega arith))
 
--- a turn of the loop that counts them, by the first byte of a record
-pub crossings_turn : (log : List ℕ) (i sum r : ℕ) → sum ≡ crossings_in i log → r ≡ one (eqb (get_or log (24 * i) 0) 0) → sum + r ≡ crossings_in (i + 1) log
-crossings_turn log i sum r e f =
-    let kind : get_or (rec_at log i) 0 0 ≡ get_or log (24 * i) 0 = rec_byte log i 0 (omega arith) ∙ rw add-zero in
-    rw (crossings_step i log, kind, e, f)
-
 -- a list is made of its elements
 filled : (l : List ℕ) (n : ℕ) → length l ≡ n → l ≡ tabulate (λ i. get_or l i 0) 0 n
 filled l n h =
     let long = h ∙ sym (length_tabulate (λ i. get_or l i 0) 0 n) in
     ext_get_or 0 l _ long (λ i p. sym (get_d_tabulate (λ k. get_or l k 0) 0 n i 0 (rw (← h) p) ∙ rw zero-add))
+
+-- a status code is a nibble, as all are
+pub code_at : (shown : List ℕ) (k : ℕ) → all_b (λ s. ltb s 16) shown ≡ true → k < length shown → get_or shown k 0 < 16
+code_at shown k all h = ltb-true _ _ (all_get (λ s. ltb s 16) shown k 0 all h)
 
 -- a crossing's row by its twelve bytes
 pub row_made : (bytes shown : List ℕ) → length bytes ≡ 8 → length shown ≡ 8

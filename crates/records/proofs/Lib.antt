@@ -1,3 +1,5 @@
 pub mod Laws
+pub mod Listed
+pub mod Chunks
 pub mod Laid
 pub mod Testing

@@ -4,24 +4,25 @@ use mathlib.Core.Path.{◌≡◌, refl, ap, sym, ◌∙◌}
 use mathlib.Core.Logic.{⊎_elim}
 use mathlib.Core.Bool.{true, false, false≢true}
 use mathlib.Core.List.{List}
-use Prim.Native.Nat.{ℕ, zero, suc, ◌+◌, ◌-◌, ◌*◌, ◌/◌, ◌≤◌, ◌<◌, min}
+use Prim.Native.Nat.{ℕ, zero, suc, ◌+◌, ◌-◌, ◌*◌, ◌≤◌, ◌<◌, min}
 use native.Mathlib.Nat.{add-zero, zero-add, suc-add, not-suc-le-zero}
 use native.Mathlib.Numerals.{add-one}
 use native.Mathlib.Omega.{arith}
 use lib.ListN.{length, take, drop, length-take, length-drop}
+use Rattle.std.specs.declared.iter.Enumerate.{Enumerate}
+use Rattle.std.specs.declared.slice.Chunks.{Chunks}
+use Rattle.std.specs.Iterator.Adapters.{enumerate_count}
 use Rattle.laws.specs.Base.{if}
 use Rattle.laws.proofs.Bools.{if_has}
 use Rattle.laws.proofs.Tests.{lt_or_ge}
-use Rattle.answer.specs.Told.{Told, succeeded, DONE}
+use Rattle.std.specs.Prelude.{Ok, Err, is_err}
+use Rattle.answer.specs.Told.{Told, Answer, told, succeeded, DONE}
+use Rattle.answer.proofs.Told.{refused}
 use Rattle.records.specs.Records.{rec_at, well, first_ill, crossings_in}
 use Rattle.records.specs.Refusal.{LIFETIME, records_in, refusal_of, Ready}
 use Rattle.records.specs.Support.Blocks.{block_count, block_in, TestedOut, tested_of}
-use Rattle.records.proofs.Laws.{part_lent, rec_cut, rec_start, crossings_cut, crossings_start, well_at_lem, all_formed, ready, refusal_settles}
-
--- ---- the lent part of the log
-
-pub part_is : (log : List ℕ) (i end : ℕ) → end ≡ min (1536 * i + 1536) (length log) → take (end - 1536 * i) (drop (1536 * i) log) ≡ block_in log i
-part_is log i end = part_lent 1536 (1536 * i) end log
+use Rattle.records.proofs.Chunks.{Turn}
+use Rattle.records.proofs.Laws.{rec_cut, rec_start, crossings_cut, crossings_start, well_at_lem, all_formed, ready, refusal_settles}
 
 block_long : (log : List ℕ) (i : ℕ) → length (block_in log i) ≡ min 1536 (length log - 1536 * i)
 block_long log i = rw (length-take, length-drop)
@@ -67,17 +68,22 @@ module _ (done : ℕ) (log : List ℕ) (room : ℕ) where
 pub clear_formed : (done : ℕ) (log : List ℕ) (room m : ℕ) → Clear done log room m → first_ill m (take (24 * m) log) ≡ m
 clear_formed done log room m c = all_formed m (take (24 * m) log) (λ i h. rw (rec_start log (24 * m) i (omega arith)) (c.formed i h))
 
+-- ---- what the code asks of an answer
+
+pub told_refused : (a : Answer) → true ≡ is_err a → succeeded (told a) ≡ false
+told_refused (Ok done) e = cc
+told_refused (Err r) e = refused r
+
+pub told_went : (a : Answer) → false ≡ is_err a → succeeded (told a) ≡ true
+told_went (Ok done) e = refl
+told_went (Err r) e = cc
+
 -- ---- the blocks
 
 module _ (first : ℕ) (log : List ℕ) (room : ℕ) where
   -- what block n is told where those before it went through
   abbrev pub answer_at : ℕ → Told
   answer_at n = refusal_of (first + crossings_in (64 * n) log) (block_in log n) (room - 768 * n)
-
-  -- as the code asks it, of the lent part and with the crossings that it has counted
-  pub answer_is : (n done end : ℕ) → end ≡ min (1536 * n + 1536) (length log) → done ≡ first + crossings_in (64 * n) log
-      → (a : Told) → a ≡ refusal_of done (take (end - 1536 * n) (drop (1536 * n) log)) (room - 768 * n) → a ≡ answer_at n
-  answer_is n done end to at a is = is ∙ rw (part_is log n end to, at)
 
   pub tested_next : (n : ℕ) → succeeded (tested_of n first log room).answer ≡ true
       → tested_of (suc n) first log room ≡ record { answer = answer_at n; records = 64 * n + if (succeeded (answer_at n)) (records_in (block_in log n)) 0 }
@@ -125,54 +131,78 @@ module _ (first : ℕ) (log : List ℕ) (room : ℕ) where
   abbrev pub Through : ℕ → Type 0
   Through n = tested_of n first log room ≡ record { answer = DONE; records = records_in (take (1536 * n) log) }
 
-  pub none_through : Through 0
+  none_through : Through 0
   unfolding tested_of
   none_through = refl
 
   went : (n : ℕ) → Through n → succeeded (tested_of n first log room).answer ≡ true
   went n so = ap (λ (o : TestedOut). succeeded o.answer) so
 
-  pub through_next : (n : ℕ) → 1536 * n < length log → Through n → answer_at n ≡ DONE → Through (n + 1)
+  through_next : (n : ℕ) → 1536 * n < length log → Through n → answer_at n ≡ DONE → Through (n + 1)
   through_next n more so d =
       let sum : 64 * n + records_in (block_in log n) ≡ records_in (take (1536 * suc n) log) = omega (arith, block_long log n, length-take (1536 * suc n) log) in
       rw add-one (tested_next n (went n so) ∙ rw (d, sum))
 
-  pub refused_here : (n m : ℕ) → n < m → Through n → succeeded (answer_at n) ≡ false → tested_of m first log room ≡ record { answer = answer_at n; records = 64 * n }
+  refused_here : (n m : ℕ) → n < m → Through n → succeeded (answer_at n) ≡ false → tested_of m first log room ≡ record { answer = answer_at n; records = 64 * n }
   refused_here n m h so d =
       let here : tested_of (suc n) first log room ≡ record { answer = answer_at n; records = 64 * n } = tested_next n (went n so) ∙ rw (d, add-zero) in
       let e : m - suc n + suc n ≡ m = omega arith in
       rw e at (tested_stays (m - suc n) (suc n) (rw here d)) ∙ here
 
-  -- block n, as the code lends it, went through
-  module _ (n : ℕ) (end : ℕ) (to : end ≡ min (1536 * n + 1536) (length log)) (d : answer_at n ≡ DONE) where
-    abbrev part : List ℕ
-    part = take (end - 1536 * n) (drop (1536 * n) log)
+  -- before a turn: where one more follows, the crossings are counted and its rows have room
+  pub record Gone (n done : ℕ) : Type 0 where
+    pub within : n ≤ block_count log
+    pub life : done ≤ LIFETIME
+    pub through : Through n
+    pub counted : 1536 * n < length log → done ≡ first + crossings_in (64 * n) log
+    pub space : 1536 * n < length log → 768 * n ≤ room
 
-    here : Ready (first + crossings_in (64 * n) log) (block_in log n) (room - 768 * n)
-    here = ready _ _ _ d
+  pub none_gone : first ≤ LIFETIME → Gone 0 first
+  unfolding crossings_in
+  none_gone h = record { within = omega arith; life = h; through = none_through; counted = λ m. omega arith; space = λ m. omega arith }
 
-    part_long : end - 1536 * n ≡ length (block_in log n)
-    part_long = omega (arith, block_long log n)
+  -- a turn, whose block the code asks with the crossings that it has counted
+  module _ (it next : Enumerate (Chunks ℕ)) (n done : ℕ) (block : List ℕ) (t : Turn 1536 log it next n block) (g : Gone (enumerate_count it) done)
+      (a : Told) (asked : a ≡ refusal_of done block (room - 768 * n)) where
+    before : Gone n done
+    before = rw t.place g
 
-    pub count_asked : length part ≡ 24 * ((end - 1536 * n) / 24)
-    count_asked = ap length (part_is log n end to) ∙ rw part_long here.whole
+    said : a ≡ answer_at n
+    said = asked ∙ rw (t.is, before.counted t.more)
 
-    module _ (x : ℕ) (is : x ≡ crossings_in ((end - 1536 * n) / 24) part) where
-      counted : x ≡ crossings_in (records_in (block_in log n)) (block_in log n)
-      counted = is ∙ rw (part_is log n end to, part_long)
+    pub gone_until : succeeded a ≡ false → record { answer = a; records = 64 * n } ≡ tested_of (block_count log) first log room
+    gone_until no_more = rw said (sym (refused_here n (block_count log) (omega (arith, t.more)) before.through (rw said at no_more)))
 
-      pub lives_on : first + crossings_in (64 * n) log + x ≤ LIFETIME
-      lives_on = omega (arith, here.life, counted)
+    module _ (went_on : succeeded a ≡ true) (x : ℕ) (counted : x ≡ crossings_in (records_in block) block) where
+      done_here : answer_at n ≡ DONE
+      done_here = refusal_settles _ _ _ (rw said at went_on)
+
+      here : Ready (first + crossings_in (64 * n) log) (block_in log n) (room - 768 * n)
+      here = ready _ _ _ done_here
+
+      is : x ≡ crossings_in (records_in (block_in log n)) (block_in log n)
+      is = rw t.is at counted
+
+      lives_on : done + x ≤ LIFETIME
+      lives_on = omega (arith, before.counted t.more, here.life, is)
 
       -- where one more follows, its crossings and its rows come after those of this one
-      pub done_on : 1536 * (n + 1) < length log → first + crossings_in (64 * n) log + x ≡ first + crossings_in (64 * (n + 1)) log
+      done_on : 1536 * (n + 1) < length log → done + x ≡ first + crossings_in (64 * (n + 1)) log
       done_on more =
           let full : records_in (block_in log n) ≡ 64 = omega (arith, block_long log n) in
-          let next : 64 * (n + 1) ≡ 64 * n + 64 = omega arith in
+          let seam : 64 * (n + 1) ≡ 64 * n + 64 = omega arith in
           let at : 24 * (64 * n) ≡ 1536 * n = omega arith in
           let all = rw at at (crossings_cut log (64 * n) 64) in
-          let own = rw full at counted ∙ crossings_start (drop (1536 * n) log) 1536 64 (omega arith) in
-          rw next (omega (arith, all, own))
+          let own = rw full at is ∙ crossings_start (drop (1536 * n) log) 1536 64 (omega arith) in
+          rw seam (omega (arith, before.counted t.more, all, own))
 
-      pub room_on : 768 * n ≤ room → 1536 * (n + 1) < length log → 768 * (n + 1) ≤ room
-      room_on h more = omega (arith, here.space, block_long log n)
+      pub gone_on : Gone (enumerate_count next) (done + x)
+      gone_on =
+          rw t.on
+          (record {
+            within = omega (arith, t.more);
+            life = lives_on;
+            through = through_next n t.more before.through done_here;
+            counted = done_on;
+            space = λ more. omega (arith, before.space t.more, here.space, block_long log n);
+          })

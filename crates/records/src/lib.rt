@@ -4,13 +4,12 @@
 mod blocks;
 mod rows;
 
-ghost use Rattle.std.specs.Prelude.{◌≡◌, ◌+◌, ◌-◌, ◌*◌, ◌≤◌, ◌<◌, eqb, length, drop};
-ghost use Rattle.laws.specs.Base.{one, all_b};
+ghost use Rattle.std.specs.Prelude.{◌≡◌, ◌≤◌, ◌<◌, not, count_by, position};
 ghost use Rattle.answer.specs.Told.{told};
-ghost use Rattle.records.specs.Records.{asked_in, well_crossing, well_command, well, first_ill, crossings_in};
+ghost use Rattle.records.specs.Records.{asked_in, is_crossing, well};
 ghost use Rattle.records.specs.Refusal.{LIFETIME, refusal_of};
 
-use answer::Answer;
+use answer::{Answer, Refusal};
 pub use blocks::{Tested, test_blocks};
 pub use rows::{carries, command_row, crossing_row, put_row, row_byte};
 
@@ -18,117 +17,61 @@ pub const RECORD: usize = 24;
 
 pub const ROW: usize = 12;
 
-// A board's life in crossings, 2^40 - 1.
-pub const LIFETIME: u64 = 1099511627775;
+// A board's life in crossings.
+pub const LIFETIME: u64 = (1 << 40) - 1;
 
 // Whether controller k's bit stands in the requests of a crossing.
+#[tactic(auto, unfolding(crate::specs::Records::asked_in))]
 pub fn asked(requests: u8, k: usize) -> bool
     requires { k < 8 }
     ensures { result ≡ asked_in requests k }
 {
-    (requests as u64 >> k as u64) % 2 == 1
+    (requests >> k) % 2 == 1
 }
 
-fn is_well_crossing(rec: &[u8]) -> bool
-    requires { length rec.now ≡ 24 }
-    ensures { result ≡ well_crossing rec.now }
-{
-    rec[0] == 0 && (rec[1] <= 1 && rec[3] <= 15)
-}
-
-fn is_rest_clear(rec: &[u8]) -> bool
-    requires { length rec.now ≡ 24 }
-    ensures { result ≡ all_b (λ b. eqb b 0) (drop 3 rec.now) }
-{
-    let mut k = 3;
-    while k < RECORD {
-        if rec[k] != 0 {
-            return false;
-        }
-        k += 1;
-    }
-    true
-}
-
-fn is_well_command(rec: &[u8]) -> bool
-    requires { length rec.now ≡ 24 }
-    ensures { result ≡ well_command rec.now }
-{
-    if rec[0] != 1 {
-        return false;
-    }
-    if 7 < rec[1] {
-        return false;
-    }
-    if rec[2] < 1 {
-        return false;
-    }
-    if 6 < rec[2] {
-        return false;
-    }
-    is_rest_clear(rec)
-}
-
-fn is_well(rec: &[u8]) -> bool
-    requires { length rec.now ≡ 24 }
+#[tactic(auto, using(std::proofs::lemmas::Bool::Decides::nat_tests), unfolding(crate::specs::Records::well, crate::specs::Records::well_crossing, crate::specs::Records::well_command))]
+fn is_well(rec: &[u8; RECORD]) -> bool
     ensures { result ≡ well rec.now }
 {
-    is_well_crossing(rec) || is_well_command(rec)
-}
-
-// The index of the first ill-formed of n records, or n.
-fn first_ill(log: &[u8], n: usize) -> usize
-    requires { length log.now ≡ 24 * n }
-    ensures { result ≡ first_ill n log.now }
-{
-    let mut i: usize = 0;
-    while i < n {
-        if !is_well(&log[RECORD * i..RECORD * i + RECORD]) {
-            return i;
-        }
-        i += 1;
+    match rec {
+        [0, 0..=1, _, 0..=15, ..] => true,
+        [1, 0..=7, 1..=6, ..] => rec[3..].iter().all(|b| *b == 0),
+        _ => false,
     }
-    n
 }
 
-// What a record of this kind adds to the crossings.
-fn crossing(kind: u8) -> u64
-    ensures { result ≡ one (eqb kind 0) }
+// The index of the first ill-formed record.
+fn first_ill(records: &[[u8; RECORD]]) -> Option<usize>
+    ensures { result ≡ position (λ rec. not (well rec)) records.now }
 {
-    if kind == 0 { 1 } else { 0 }
+    records.iter().position(|rec| !is_well(rec))
 }
 
-pub(crate) fn crossings_in(log: &[u8], n: usize) -> u64
-    requires { length log.now ≡ 24 * n }
-    ensures { result ≡ crossings_in n log.now }
+pub(crate) fn crossings_in(records: &[[u8; RECORD]]) -> u64
+    ensures { result ≡ count_by is_crossing records.now }
 {
-    let mut sum: u64 = 0;
-    let mut i: usize = 0;
-    while i < n {
-        sum += crossing(log[RECORD * i]);
-        i += 1;
-    }
-    sum
+    records.iter().map(|rec| u64::from(rec[0] == 0)).sum()
 }
 
 // What a block is refused for on a sound board: LENGTH, ROOM, RECORD, LIFE, in that order. It touches nothing.
-pub fn refusal(done: u64, log: &[u8], room: usize) -> Answer
+#[tactic(auto, using(std::proofs::lemmas::Bool::Decides::nat_tests), unfolding(crate::specs::Refusal::refusal_of))]
+pub fn test_block(done: u64, log: &[u8], room: usize) -> Answer
     requires { done ≤ LIFETIME }
     ensures { told result ≡ refusal_of done log.now room }
 {
-    let n = log.len() / RECORD;
-    if log.len() % RECORD != 0 {
-        return Answer::Length;
+    let (records, tail) = log.as_chunks();
+    let needed = ROW * records.len();
+    if !tail.is_empty() {
+        return Err(Refusal::Length);
     }
-    if room < ROW * n {
-        return Answer::Room(ROW * n);
+    if room < needed {
+        return Err(Refusal::Room(needed));
     }
-    let ill = first_ill(log, n);
-    if ill != n {
-        return Answer::Record(ill);
+    if let Some(ill) = first_ill(records) {
+        return Err(Refusal::Record(ill));
     }
-    if done + crossings_in(log, n) <= LIFETIME {
-        return Answer::Done;
+    if LIFETIME < done + crossings_in(records) {
+        return Err(Refusal::Life);
     }
-    Answer::Life
+    Ok(())
 }

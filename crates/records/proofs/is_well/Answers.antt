@@ -1,12 +1,15 @@
--- `records::is_well` meets its contract: a well-formed crossing, or else what the test of a command says.
--- The definition is the same disjunction.
-use Rattle.records.specs.Records.{well}
+-- `records::is_well` meets its contract: the patterns are the tests of the two definitions, and the reserved bytes decide as `all_b` does.
+-- A record of no pattern fails one test of each.
+use Rattle.std.proofs.Common.{◌≡◌, ◌∙◌, arith, rules, tests, eqb, drop, length-drop}
+use lib.Seq.{take_all}
+use Rattle.std.specs.List.{list_all}
+use Rattle.std.proofs.lemmas.Iterator.{YieldsList-from_slice}
+use Rattle.std.proofs.lemmas.Iterator.Search.{all_from_yields_List}
+use Rattle.records.proofs.Listed.{all_listed, reserved_decide}
 use Rattle.records.proofs.is_well.Goals as goal
 
-pub returns-then-is_well_crossing : goal.returns-then-is_well_crossing
-unfolding well
-returns-then-is_well_crossing c = rw (← c.is_well_crossing.ensures, c.if-is_well_crossing.true)
-
-pub returns-else-is_well_crossing : goal.returns-else-is_well_crossing
-unfolding well
-returns-else-is_well_crossing c = rw (← c.is_well_crossing.ensures, c.if-is_well_crossing.false) c.is_well_command.ensures
+pub returns-in-1 : goal.returns-in-1
+returns-in-1 c =
+    let rec = c.args.rec.now in
+    let reserved : c.all.result ≡ list_all (λ b. eqb b 0) (drop 3 rec) = all_from_yields_List (λ b. eqb b 0) _ _ c.all.result c.all.ensures.ran (YieldsList-from_slice (drop 3 rec) (c.iter.ensures.rest ∙ take_all 21 (drop 3 rec) (grind (arith, length-drop)))) (λ x b q k. search (rules, tests)) in
+    reserved ∙ all_listed _ _ ∙ reserved_decide rec (omega arith) (omega arith) (omega arith) (omega arith)

@@ -1,32 +1,27 @@
 -- `records::test_block` meets its contract: each early return is the first test of the definition that fails.
--- The sum fits, since there are no more crossings than records.
-use native.Mathlib.Omega.{arith}
-use Rattle.laws.proofs.Tests.{tests}
-use Rattle.records.specs.Refusal.{refusal_of, records_in}
-use Rattle.records.proofs.Laws.{crossings_le}
+-- The list of the records has the first ill-formed one and the crossings of the log.
+use Rattle.std.proofs.Common.{arith}
+use Rattle.std.proofs.lemmas.Bool.Decides.{nat_tests}
+use Rattle.records.specs.Refusal.{refusal_of}
+use Rattle.records.proofs.Listed.{some_ill, none_ill, crossings_listed}
 use Rattle.records.proofs.test_block.Goals as goal
 
-pub returns-then-log-ne0 : goal.returns-then-log-ne0
+pub returns-in-Some : goal.returns-in-Some
 unfolding refusal_of
-returns-then-log-ne0 c = search tests
+returns-in-Some c =
+    let ill = some_ill c.args.log.now _ c.as_chunks.ensures.front _ c.first_ill.ensures _ c.in-Some.is in
+    grind (arith, nat_tests)
 
-pub returns-then-room-n : goal.returns-then-room-n
+pub returns-then-done-crossings_in-gt-LIFETIME : goal.returns-then-done-crossings_in-gt-LIFETIME
 unfolding refusal_of
-returns-then-room-n c = search tests
-
-pub returns-then-ill-n : goal.returns-then-ill-n
-unfolding refusal_of
-returns-then-ill-n c = search (tests, ← c.first_ill-ill.ensures)
-
-pub overflow_add-done : goal.overflow_add-done
-overflow_add-done c =
-    let log = c.args.log.now in
-    omega (arith, c.crossings_in.ensures, crossings_le (records_in log) log)
-
-pub returns-then-done-crossings_in-le-LIFETIME : goal.returns-then-done-crossings_in-le-LIFETIME
-unfolding refusal_of
-returns-then-done-crossings_in-le-LIFETIME c = search (tests, ← c.first_ill-ill.ensures, ← c.crossings_in.ensures)
+returns-then-done-crossings_in-gt-LIFETIME c =
+    let formed = none_ill c.args.log.now _ c.as_chunks.ensures.front _ c.first_ill.ensures c.in_default.is in
+    let crossings = crossings_listed c.args.log.now _ c.as_chunks.ensures.front in
+    grind (arith, nat_tests)
 
 pub returns : goal.returns
 unfolding refusal_of
-returns c = search (tests, ← c.first_ill-ill.ensures, ← c.crossings_in.ensures)
+returns c =
+    let formed = none_ill c.args.log.now _ c.as_chunks.ensures.front _ c.first_ill.ensures c.in_default.is in
+    let crossings = crossings_listed c.args.log.now _ c.as_chunks.ensures.front in
+    grind (arith, nat_tests)
