@@ -6,7 +6,7 @@ use denote.Param.Members.{Mut, Called}
 use Rattle.laws.specs.Base.{tabulate}
 use Rattle.laws.proofs.Over.{length_tabulate, get_d_tabulate}
 
-module _ {F B : Type 0} (g : Mut F (ℕ × Unit {0}) B) (h : ℕ → B) (f : F) (gives : (i : ℕ) (y : B) (q : F) → Called g f (i, tt) y q → (q ≡ f) × (y ≡ h i)) where
+module _ {F B : Type 0} {g : Mut F (ℕ × Unit {0}) B} {f : F} (h : ℕ → B) (gives : (i : ℕ) (y : B) (q : F) → Called g f (i, tt) y q → (q ≡ f) × (y ≡ h i)) where
   each : (ys : List B) (d : B) (p : F) (i n : ℕ) → p ≡ f → IsFromFnResultFrom g p ys i n → (k : ℕ) → k < n → get_or ys (i + k) d ≡ h (i + k)
   each ys d p i zero same r k l = absurd (not-suc-le-zero l)
   each ys d p i (suc n) same r zero l = rw add-zero (r.2.1 d ∙ (gives i r.1 r.0 (rw same at r.3)).1)
@@ -14,8 +14,9 @@ module _ {F B : Type 0} (g : Mut F (ℕ × Unit {0}) B) (h : ℕ → B) (f : F) 
       let next : i + suc k ≡ i + 1 + k = omega arith in
       rw next (each ys d r.0 (i + 1) n (gives i r.1 r.0 (rw same at r.3)).0 r.4 k (le_of_suc-le-suc l))
 
-  pub tabulated : (d : B) (ys : List B) (n : ℕ) → IsFromFnResult g f ys n → ys ≡ tabulate h 0 n
-  tabulated d ys n r =
+  -- d is any value: it stands for what lies past the end
+  pub tabulated : (d : B) {ys : List B} {n : ℕ} → IsFromFnResult g f ys n → ys ≡ tabulate h 0 n
+  tabulated d {ys} {n} r =
       ext_get_or d ys (tabulate h 0 n) (r.long ∙ sym (length_tabulate h 0 n))
       (λ k l.
       let below : k < n = rw r.long at l in

@@ -7,4 +7,4 @@ use Rattle.lanes.proofs.merge.Goals as goal
 
 pub returns : goal.returns
 unfolding lane_classes
-returns c = rw (← c.lanes-all.ensures) (tabulated _ (class_in c.lanes-all.result) _ (λ i y q k. search rules) 0 _ _ c.from_fn.ensures.items)
+returns c = rw (← c.lanes-all.ensures) (tabulated (class_in c.lanes-all.result) (λ i y q k. search rules) 0 c.from_fn.ensures.items)

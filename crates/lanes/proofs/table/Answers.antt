@@ -7,4 +7,4 @@ use Rattle.lanes.proofs.table.Goals as goal
 
 pub returns : goal.returns
 unfolding table_of
-returns c = let m = c.args.m in tabulated _ (entry_of m.owners m.ranks) _ (λ i y q k. search rules) 0 _ _ c.from_fn.ensures.items
+returns c = let m = c.args.m in tabulated (entry_of m.owners m.ranks) (λ i y q k. search rules) 0 c.from_fn.ensures.items

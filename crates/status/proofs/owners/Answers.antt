@@ -5,4 +5,4 @@ use Rattle.status.proofs.Tabulated.{tabulated}
 use Rattle.status.proofs.owners.Goals as goal
 
 pub returns : goal.returns
-returns c = tabulated _ (owner_of c.args.s) _ (λ i y q k. search rules) 0 _ _ c.from_fn.ensures.items
+returns c = tabulated (owner_of c.args.s) (λ i y q k. search rules) 0 c.from_fn.ensures.items

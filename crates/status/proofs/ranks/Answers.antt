@@ -5,4 +5,4 @@ use Rattle.status.proofs.Tabulated.{tabulated}
 use Rattle.status.proofs.ranks.Goals as goal
 
 pub returns : goal.returns
-returns c = tabulated _ (rank_at c.args.ignores) _ (λ i y q k. search rules) 0 _ _ c.from_fn.ensures.items
+returns c = tabulated (rank_at c.args.ignores) (λ i y q k. search rules) 0 c.from_fn.ensures.items

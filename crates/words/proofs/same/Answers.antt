@@ -16,5 +16,5 @@ compared (Some x) None a b la lb p q = absurd (q lb)
 compared (Some x) (Some y) a b la lb p q =
     rw (p.same, q.same) (same_from_decides _ _ (bytes_eq-Decides a b) (same_bytes-Decides a b 21 la lb))
 
-pub returns : goal.returns
-returns c = c.eq.ensures ∙ compared _ _ _ _ c.requires.0 c.requires.1 c.as_array.ensures.cases c.as_array-2.ensures.cases
+pub returns-clause-same : goal.returns-clause-same
+returns-clause-same c = c.eq.ensures ∙ compared _ _ _ _ c.requires.0 c.requires.1 c.as_array.ensures.cases c.as_array-2.ensures.cases
