@@ -85,7 +85,7 @@ impl Sight {
         Sight {
             turn,
             classes: lanes::merge(&kit.lanes, &held.believed),
-            firm: steady::is_firm(&held.carried, &held.believed),
+            firm: held.is_firm(),
             marker: false,
             requests: 0,
             due: 0,

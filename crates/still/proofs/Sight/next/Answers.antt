@@ -13,6 +13,7 @@ use Rattle.lanes.specs.Support.Lanes.{lane_classes}
 use Rattle.words.proofs.Laws.{same_lists}
 use Rattle.steady.specs.declared.Held.{Held}
 use Rattle.steady.specs.declared.News.{News}
+use Rattle.steady.specs.Steady.{believed_of}
 use Rattle.steady.specs.Held.{next_held}
 use Rattle.steady.specs.Support.News.{news_of}
 use Rattle.steady.proofs.Laws.{believed_long, believed_coded}
@@ -47,6 +48,10 @@ module _ (held : Held) (rec : List ℕ) (n : Coded (codes_in rec)) (c : Coded he
   unfolding sight_of news_of next_held
   sight_is busy table slots clock old calm turn classes still ends number due c e t n f d = rw (d, f, n, t, e, c, moved, told)
 
+held_is : (held after : Held) (codes : List ℕ) → after.believed ≡ believed_of held.carried held.believed codes → after.carried ≡ codes → after ≡ next_held held codes
+unfolding next_held
+held_is held after codes b c = ap (λ (x : List ℕ). record { carried = after.carried; believed = x }) b ∙ ap (λ (x : List ℕ). record { carried = x; believed = believed_of held.carried held.believed codes }) c
+
 -- what is lent of a record past its third byte
 lent : (rec : List ℕ) → length rec ≡ 24 → take (length rec - 3) (drop 3 rec) ≡ codes_in rec
 lent rec long = take_all (length rec - 3) (drop 3 rec) (rw length-drop (omega arith))
@@ -60,14 +65,15 @@ pub classes_of-classes-requires : goal.classes_of-classes-requires
 classes_of-classes-requires c =
     let p = c.requires in
     let e = rw (lent c.args.rec.now p.0) at c.follow-news.ensures in
-    merge_asked c.args.held.now c.args.rec.now p.1 p.2 p.3 _ _ e.0 e.1 _ _ p.4
+    merge_asked c.args.held.now c.args.rec.now p.1 p.2 p.3 _ _ e.0 (held_is _ _ _ e.1 e.2) _ _ p.4
 
 pub returns : goal.returns
 returns c =
     let a = c.args in
     let p = c.requires in
-    let e = rw (lent a.rec.now p.0) at c.follow-news.ensures in (
-      sight_is a.held.now a.rec.now p.1 p.2 p.3 _ _ e.0 e.1 a.busy.now _ _ a.clock _ a.calm _ _ _ _ _ _ c.classes_of-classes.ensures c.ends_orbit.ensures
+    let e = rw (lent a.rec.now p.0) at c.follow-news.ensures in
+    let moved = held_is a.held.now c.follow-news.new.self _ e.1 e.2 in (
+      sight_is a.held.now a.rec.now p.1 p.2 p.3 _ _ e.0 moved a.busy.now _ _ a.clock _ a.calm _ _ _ _ _ _ c.classes_of-classes.ensures c.ends_orbit.ensures
           c.turned.ensures c.number-number.ensures c.both.ensures c.due.ensures,
-      e.1,
+      moved,
     )
