@@ -1,6 +1,6 @@
 -- `told` loses nothing: two answers that tell the same are the same, so a contract by `told` determines the code's answer.
 -- `answer_of` reads the answer back from its number and what it carries. An answer is `Ok` exactly where it tells a success.
-use Rattle.std.specs.Prelude.{true, false, [], ◌∷◌, Ok, Err, is_ok}
+use Rattle.std.specs.Prelude.{true, false, [], ◌∷◌, Ok, Err, is_ok, is_err, not}
 use mathlib.Core.Path.{◌≡◌, refl, sym, ap, ◌∙◌}
 use mathlib.Core.Bool.{false≢true}
 use Prim.Native.Nat.{ℕ, zero, suc, ◌≤◌, ◌<◌}
@@ -53,6 +53,10 @@ refused Store = refl
 pub is_ok_told : (a : Answer) → is_ok a ≡ succeeded (told a)
 is_ok_told (Ok done) = refl
 is_ok_told (Err r) = sym (refused r)
+
+pub is_err_told : (a : Answer) → succeeded (told a) ≡ not (is_err a)
+is_err_told (Ok done) = refl
+is_err_told (Err r) = refused r
 
 -- a success tells nothing more
 pub told_done : (a : Answer) → succeeded (told a) ≡ true → told a ≡ DONE

@@ -8,8 +8,7 @@ use native.Mathlib.Omega.{arith}
 use borrow.Author.Tests.{eq-eqb, le-leb}
 use lib.ListN.{length, drop}
 use Rattle.laws.proofs.Bools.{if_yes, if_has}
-use Rattle.answer.specs.declared.Answer.{Answer}
-use Rattle.answer.specs.Told.{told, succeeded, DONE, BOARD}
+use Rattle.answer.specs.Told.{Answer, told, succeeded, DONE, BOARD}
 use Rattle.answer.proofs.Told.{not_done, told_done}
 use Rattle.records.specs.Records.{first_ill, crossings_in}
 use Rattle.records.specs.Refusal.{LIFETIME, records_in, refusal_of, Ready}
@@ -44,11 +43,11 @@ module _ (b : Board) (log rows : List ℕ) (a : Answer) (is : told a ≡ answer_
       (r.0, r.1.whole, r.1.space, r.1.formed, r.1.life)
 
   pub done_is : (next : Board) (out : List ℕ) → succeeded (told a) ≡ true → next ≡ ran (records_in log) b log
-      → out ≡ rows_of (records_in log) b log ++ drop (12 * records_in log) rows → ran_out (record { answer = a; board = next }) out ≡ block_of b log rows
+      → out ≡ rows_of (records_in log) b log ++ drop (12 * records_in log) rows → ran_out a next out ≡ block_of b log rows
   unfolding block_of
   done_is next out d n o = rw (← is, d, n, o)
 
-  pub refused_is : succeeded (told a) ≡ false → ran_out (record { answer = a; board = b }) rows ≡ block_of b log rows
+  pub refused_is : succeeded (told a) ≡ false → ran_out a b rows ≡ block_of b log rows
   unfolding block_of
   refused_is d = rw (← is, d)
 

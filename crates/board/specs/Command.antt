@@ -1,8 +1,7 @@
 -- Document 01, "Records and rows": a command record, which changes one controller at most, and its row.
 use Rattle.std.specs.Prelude.{ℕ, List, get_or, set}
-use Rattle.ptc.specs.declared.Commanded.{Commanded}
 use Rattle.ptc.specs.Fresh.{fresh_ptc}
-use Rattle.ptc.specs.Command.{commanded_of}
+use Rattle.ptc.specs.Command.{Commanded, commanded_of}
 use Rattle.records.specs.Rows.{command_row}
 use Rattle.kit.specs.View.{View, view_of}
 use Rattle.board.specs.declared.Board.{Board}

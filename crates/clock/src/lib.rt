@@ -7,7 +7,7 @@ ghost use Rattle.clock.specs.Clock.{number_of, orbit_ends, next_of, ticked_of, s
 ghost use Rattle.clock.specs.Turn.{next_from, takes_over, fallen_of, turned_of, fresh_turn, held, sound_turn};
 ghost use Rattle.clock.specs.Support.Room.{ClockRoom, SlotRoom};
 
-#[derive(Clone, Copy)]
+#[derive(Clone, Copy, Debug, PartialEq, Eq)]
 pub struct Clock {
     pub crossings: u64,
     // The number that the next crossing has where no marker comes.
@@ -17,7 +17,7 @@ pub struct Clock {
 }
 
 // Who holds the slot, 8 for none, and for how many orbits more.
-#[derive(Clone, Copy)]
+#[derive(Clone, Copy, Debug, PartialEq, Eq)]
 pub struct Turn {
     pub holder: u32,
     pub left: u32,

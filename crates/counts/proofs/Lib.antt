@@ -1,3 +1,1 @@
-pub mod Tallies
 pub mod Balance
-mod Parts

@@ -43,17 +43,19 @@ fn of_rule(rule: u8) -> u8
 }
 
 // Lost under the first cause that holds: state, slot, gap, cal, the first rule that refuses; or sent.
+#[tactic(auto, unfolding(crate::specs::Counts::fate_of))]
 pub fn fate(gap: Gap, number: u32, state: u8, own: bool, busy: bool, rule: u8) -> u8
     ensures { result ≡ fate_of gap number state own busy rule }
 {
     if !is_running(state) {
-        return STATE;
+        STATE
+    } else if !own {
+        SLOT
+    } else if in_gap(gap, number) {
+        GAP
+    } else if busy {
+        CAL
+    } else {
+        of_rule(rule)
     }
-    if !own {
-        return SLOT;
-    }
-    if in_gap(gap, number) {
-        return GAP;
-    }
-    if busy { CAL } else { of_rule(rule) }
 }

@@ -12,7 +12,7 @@ use fates::{CAL, FIRST, FOURTH, GAP, SECOND, SLOT, STATE, THIRD};
 pub use fates::{SENT, fate};
 
 // Requests that a rule of the throttle refused, by the first that did.
-#[derive(Clone, Copy)]
+#[derive(Clone, Copy, Debug, Default, PartialEq, Eq)]
 pub struct ByRule {
     pub first: u64,
     pub second: u64,
@@ -21,7 +21,7 @@ pub struct ByRule {
 }
 
 // Requests that were lost, by cause; those of the throttle also by rule.
-#[derive(Clone, Copy)]
+#[derive(Clone, Copy, Debug, Default, PartialEq, Eq)]
 pub struct Lost {
     pub state: u64,
     pub slot: u64,
@@ -32,7 +32,7 @@ pub struct Lost {
 }
 
 // Calibration triggers, which balance apart.
-#[derive(Clone, Copy)]
+#[derive(Clone, Copy, Debug, Default, PartialEq, Eq)]
 pub struct Calibrations {
     pub requested: u64,
     pub accepted: u64,
@@ -40,7 +40,7 @@ pub struct Calibrations {
 }
 
 // Since START, or the fresh board.
-#[derive(Clone, Copy)]
+#[derive(Clone, Copy, Debug, Default, PartialEq, Eq)]
 pub struct Counts {
     pub requested: u64,
     pub accepted: u64,
@@ -49,37 +49,36 @@ pub struct Counts {
 }
 
 impl ByRule {
+    #[tactic(auto, unfolding(crate::specs::Counts::ruled_to))]
     fn with(self, fate: u8) -> ByRule
         requires { RulesRoom self }
         ensures { result ≡ ruled_to fate self }
     {
         ByRule {
-            first: self.first + plain::one(fate == FIRST),
-            second: self.second + plain::one(fate == SECOND),
-            third: self.third + plain::one(fate == THIRD),
-            fourth: self.fourth + plain::one(fate == FOURTH),
+            first: self.first + u64::from(fate == FIRST),
+            second: self.second + u64::from(fate == SECOND),
+            third: self.third + u64::from(fate == THIRD),
+            fourth: self.fourth + u64::from(fate == FOURTH),
         }
     }
 }
 
 impl Lost {
     // One that a rule refused.
+    #[tactic(auto, unfolding(crate::specs::Counts::lost_to))]
     fn with_rule(self, fate: u8) -> Lost
         requires { (LostRoom self) × (4 < fate) }
         ensures { result ≡ lost_to fate self }
     {
-        let rules = self.rules.with(fate);
         Lost {
-            state: self.state,
-            slot: self.slot,
-            gap: self.gap,
-            cal: self.cal,
             throttle: self.throttle + 1,
-            rules: rules,
+            rules: self.rules.with(fate),
+            ..self
         }
     }
 
     // Most are lost to the state or to the slot: those leave the rules alone.
+    #[tactic(auto, unfolding(crate::specs::Counts::lost_to, crate::specs::Counts::ruled_to))]
     fn with(self, fate: u8) -> Lost
         requires { LostRoom self }
         ensures { result ≡ lost_to fate self }
@@ -87,19 +86,18 @@ impl Lost {
         if CAL < fate {
             return self.with_rule(fate);
         }
-        let rules = self.rules;
         Lost {
-            state: self.state + plain::one(fate == STATE),
-            slot: self.slot + plain::one(fate == SLOT),
-            gap: self.gap + plain::one(fate == GAP),
-            cal: self.cal + plain::one(fate == CAL),
-            throttle: self.throttle,
-            rules: rules,
+            state: self.state + u64::from(fate == STATE),
+            slot: self.slot + u64::from(fate == SLOT),
+            gap: self.gap + u64::from(fate == GAP),
+            cal: self.cal + u64::from(fate == CAL),
+            ..self
         }
     }
 }
 
 impl Calibrations {
+    #[tactic(auto, unfolding(crate::specs::Counts::calibrated_of))]
     fn with(self, asks: bool, free: bool) -> Calibrations
         requires { CalRoom self }
         ensures { result ≡ calibrated_of asks free self }
@@ -109,8 +107,8 @@ impl Calibrations {
         }
         Calibrations {
             requested: self.requested + 1,
-            accepted: self.accepted + plain::one(free),
-            lost: self.lost + plain::one(!free),
+            accepted: self.accepted + u64::from(free),
+            lost: self.lost + u64::from(!free),
         }
     }
 }
@@ -119,33 +117,10 @@ impl Counts {
     pub fn none() -> Counts
         ensures { result ≡ no_counts }
     {
-        let rules = ByRule {
-            first: 0,
-            second: 0,
-            third: 0,
-            fourth: 0,
-        };
-        let lost = Lost {
-            state: 0,
-            slot: 0,
-            gap: 0,
-            cal: 0,
-            throttle: 0,
-            rules: rules,
-        };
-        let cal = Calibrations {
-            requested: 0,
-            accepted: 0,
-            lost: 0,
-        };
-        Counts {
-            requested: 0,
-            accepted: 0,
-            lost: lost,
-            cal: cal,
-        }
+        Counts::default()
     }
 
+    #[tactic(auto, unfolding(crate::specs::Counts::requested_of))]
     pub fn with_request(self, asked: bool, fate: u8) -> Counts
         requires { CountsRoom self }
         ensures { result ≡ requested_of asked fate self }
@@ -153,13 +128,11 @@ impl Counts {
         if !asked {
             return self;
         }
-        let lost = self.lost.with(fate);
-        let cal = self.cal;
         Counts {
             requested: self.requested + 1,
-            accepted: self.accepted + plain::one(fate == SENT),
-            lost: lost,
-            cal: cal,
+            accepted: self.accepted + u64::from(fate == SENT),
+            lost: self.lost.with(fate),
+            ..self
         }
     }
 
@@ -168,14 +141,9 @@ impl Counts {
         requires { CountsRoom self }
         ensures { result ≡ counted_of asked fate asks free self }
     {
-        let counts = self.with_request(asked, fate);
-        let lost = counts.lost;
-        let cal = self.cal.with(asks, free);
         Counts {
-            requested: counts.requested,
-            accepted: counts.accepted,
-            lost: lost,
-            cal: cal,
+            cal: self.cal.with(asks, free),
+            ..self.with_request(asked, fate)
         }
     }
 }

@@ -17,7 +17,9 @@ use Rattle.keys.specs.Settings.{newest, value_lines, table_of}
 use Rattle.keys.specs.Support.Lines.{lines, line_count, nowhere}
 use Rattle.keys.proofs.Lines.{no_entry}
 use Rattle.editions.specs.Read.{sources, laid_out}
-use Rattle.editions.specs.Support.Tables.{count_of, place_of, source_of}
+use Rattle.editions.specs.declared.tables.Edition.{Edition}
+use Rattle.editions.specs.declared.tables.Edition.TheVariants.{First, Second, Third}
+use Rattle.editions.specs.Support.Tables.{number_of, count_of, place_of, source_of}
 
 pub record Known (e : ℕ) : Type 0 where
   pub long : length (table_of e) ≡ count_of e
@@ -45,6 +47,11 @@ third : Known 3
 unfolding table_of lines value_lines all_b first_not tabulate sources laid_out
 third =
     record { long = refl; some = omega arith; most = omega arith; inside = refl; entries = refl; good = refl; given = refl; laid = λ ns. refl; ranges = refl }
+
+pub known_edition : (e : Edition) → Known (number_of e)
+known_edition First = first
+known_edition Second = second
+known_edition Third = third
 
 pub known : (e : ℕ) → 0 < e → e ≤ newest → Known e
 known zero some most = absurd (omega arith)

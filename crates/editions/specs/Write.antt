@@ -1,7 +1,6 @@
 -- The settings text written, in the newest edition: RANGE, RELATION, ROOM; a success writes exactly the text, and later bytes stay.
 use Rattle.std.specs.Prelude.{ℕ, List, ◌∷◌, ◌++◌, leb, length, drop}
-use Rattle.answer.specs.declared.Answer.{Answer}
-use Rattle.answer.specs.Told.{Told, told, DONE, ROOM, succeeded}
+use Rattle.answer.specs.Told.{Told, Answer, told, DONE, ROOM, succeeded}
 use Rattle.laws.specs.Base.{if}
 use Rattle.text.specs.Lines.{keys_of, lines_text}
 use Rattle.keys.specs.Settings.{newest, table_of}

@@ -3,202 +3,127 @@
 
 mod tables;
 
-ghost use Rattle.std.specs.Prelude.{◌≡◌, ◌<◌, ◌≤◌, length, take};
-ghost use Rattle.laws.specs.Base.{if};
-ghost use Rattle.answer.specs.Told.{told};
-ghost use Rattle.keys.specs.Settings.{newest};
-ghost use Rattle.settings.specs.Lows.{lows_cleared};
-ghost use Rattle.editions.specs.Read.{edition_of, read_text, read_out, refused, laid_out};
+ghost use Rattle.std.specs.Prelude.{◌≡◌, length};
+ghost use Rattle.answer.specs.Told.{told_refusal};
+ghost use Rattle.editions.specs.Read.{edition_of, read_text, read_out};
 ghost use Rattle.editions.specs.Write.{text_of, numbers_of, written, write_out};
-ghost use Rattle.editions.specs.Support.Tables.{count_of};
-ghost use Rattle.editions.specs.Support.Got.{GotIs};
+ghost use Rattle.editions.specs.Support.Tables.{number_opened};
+ghost use Rattle.editions.specs.Support.Got.{fault_at, GotIs, outcome};
 
-use answer::Answer;
+use answer::{Answer, Refusal};
 use settings::Settings;
-use tables::{count, place, source, stops};
-use text::{Line, Range};
+use tables::Edition;
+use text::LineFault;
 
-// What a text was read as.
+// What a text was read as. A refused reading gives the standard values.
 #[derive(Clone, Copy)]
 pub struct Read {
     pub answer: Answer,
     pub settings: Settings,
 }
 
-// What its lines were read as: the numbers of as many as its edition has.
-#[derive(Clone, Copy)]
-struct Got {
-    answer: Answer,
-    numbers: [u32; 149],
-}
-
-fn wide(x: u32) -> u64
-    ensures { result ≡ x }
-{
-    x as u64
-}
-
-// A refused reading gives the standard values.
-fn refusal(a: Answer) -> Read
-    ensures { read_out result ≡ refused (told a) }
-{
-    let s = Settings::standard();
-    Read {
-        answer: a,
-        settings: s,
-    }
-}
-
-// The edition that the first line opens, or 0.
-fn edition_of(text: &[u8]) -> usize
-    ensures { result ≡ edition_of text.now }
+// The edition that the first line opens.
+#[tactic(auto, using(crate::proofs::Opening::opens))]
+fn edition_of(text: &[u8]) -> Option<Edition>
+    ensures { number_opened result ≡ edition_of text.now }
 {
     if keys::begins(text, 1) {
-        return 1;
+        return Some(Edition::First);
     }
-    let known = Range {
-        low: 2,
-        high: 3,
-        digits: 5,
-    };
-    match keys::read_line(text, 0, 0, known) {
-        Line::Value(e, _) => e as usize,
-        Line::Ill => 0,
-        Line::Out => 0,
+    match keys::read_line(text, 0, 0, keys::range(0)) {
+        Ok((2, _)) => Some(Edition::Second),
+        Ok((3, _)) => Some(Edition::Third),
+        _ => None,
     }
 }
 
-// The first faulty line decides, then the tail.
-fn read_lines(text: &[u8], e: usize) -> Got
-    requires { (0 < e) × (e ≤ newest) }
-    ensures { GotIs e text.now result }
+fn refused(fault: LineFault, line: usize) -> Refusal
+    ensures { told_refusal result ≡ fault_at line fault }
 {
-    let lows = keys::low_values();
-    let highs = keys::high_values();
-    let lines = count(e);
-    let mut numbers = [0u32; 149];
+    match fault {
+        LineFault::Ill => Refusal::Text(line),
+        LineFault::Out => Refusal::Range(line),
+    }
+}
+
+// The numbers of as many lines as the edition has. The first faulty line decides, then the tail.
+fn read_lines(text: &[u8], edition: Edition) -> Result<[u32; 149], Refusal>
+    ensures { GotIs edition text.now result }
+{
+    let lines = edition.count();
+    let mut numbers = [0; 149];
     let mut at = 0;
-    let mut n = 0;
-    while n < lines {
-        let p = place(e, n);
-        let got = keys::read_line(text, at, p, keys::range(&lows, &highs, p));
-        match got {
-            Line::Value(v, next) => {
-                numbers[n] = v;
-                at = next;
-                n += 1;
-            }
-            Line::Ill => {
-                return Got {
-                    answer: Answer::Text(n + 1),
-                    numbers: numbers,
-                };
-            }
-            Line::Out => {
-                return Got {
-                    answer: Answer::Range(n + 1),
-                    numbers: numbers,
-                };
-            }
-        }
+    for n in 0..lines {
+        let place = edition.place(n);
+        let line = keys::read_line(text, at, place, keys::range(place));
+        (numbers[n], at) = line.map_err(|fault| refused(fault, n + 1))?;
     }
     let has_tail = at < text.len();
     if has_tail {
-        return Got {
-            answer: Answer::Text(lines + 1),
-            numbers: numbers,
-        };
+        return Err(Refusal::Text(lines + 1));
     }
-    Got {
-        answer: Answer::Done,
-        numbers: numbers,
-    }
-}
-
-// The values of the settings, each from the line of that edition that gives it.
-fn laid_out(e: usize, numbers: [u32; 149]) -> Settings
-    requires { (0 < e) × (e ≤ newest) }
-    ensures { result ≡ laid_out e (take (count_of e) numbers) }
-{
-    let mut values = [0u32; 147];
-    let mut n = 0;
-    while n < 147 {
-        values[n] = numbers[source(e, n)];
-        n += 1;
-    }
-    Settings { values: values }
+    Ok(numbers)
 }
 
 // Text that stopped triggers under warning gets low limits of 0, which do the same.
-fn settled(own: Settings, stopped: bool) -> Settings
-    ensures { result ≡ if stopped (lows_cleared own) own }
+#[tactic(auto, using(crate::proofs::Reading::reading))]
+fn read_settings(text: &[u8]) -> Result<Settings, Refusal>
+    ensures { outcome result ≡ read_text text.now }
 {
-    if stopped {
-        return own.lows_cleared();
-    }
-    own
+    let edition = edition_of(text).ok_or(Refusal::Text(1))?;
+    let numbers = read_lines(text, edition)?;
+    let own = edition.laid_out(&numbers);
+    own.test_relations()?;
+    let stopped = edition.stops(&numbers);
+    Ok(if stopped { own.lows_cleared() } else { own })
 }
 
 // Any bytes at all. The first line decides the edition, then the first faulty line, the tail and the relations decide.
 pub fn read_text(text: &[u8]) -> Read
     ensures { read_out result ≡ read_text text.now }
 {
-    let e = edition_of(text);
-    if e == 0 {
-        return refusal(Answer::Text(1));
-    }
-    let got = read_lines(text, e);
-    let lines = got.answer;
-    if !lines.is_done() {
-        return refusal(lines);
-    }
-    let numbers = got.numbers;
-    let own = laid_out(e, numbers);
-    let related = own.first_relation().told();
-    if !related.is_done() {
-        return refusal(related);
-    }
-    Read {
-        answer: related,
-        settings: settled(own, stops(e, numbers)),
+    match read_settings(text) {
+        Ok(settings) => Read {
+            answer: Ok(()),
+            settings,
+        },
+        Err(refusal) => Read {
+            answer: Err(refusal),
+            settings: Settings::standard(),
+        },
     }
 }
 
 // The numbers of the newest edition's lines: the edition itself, then the values.
-fn numbers_of(s: Settings) -> [u64; 148]
-    ensures { result ≡ numbers_of s }
+fn numbers_of(s: &Settings) -> [u64; 148]
+    ensures { result ≡ numbers_of s.now }
 {
-    let v = s.values;
-    let mut numbers = [3u64; 148];
-    let mut n = 0;
-    while n < 147 {
-        numbers[n + 1] = wide(v[n]);
-        n += 1;
+    let mut numbers = [3; 148];
+    for (n, value) in s.values.iter().enumerate() {
+        numbers[n + 1] = u64::from(*value);
     }
     numbers
 }
 
 // How long the text is.
-pub fn text_length(s: Settings) -> usize
-    ensures { result ≡ length (text_of s) }
+#[tactic(auto, using(crate::proofs::Writing::writing))]
+pub fn text_length(s: &Settings) -> usize
+    ensures { result ≡ length (text_of s.now) }
 {
-    let numbers = numbers_of(s);
-    keys::lines_length(0, &numbers)
+    keys::lines_length(0, &numbers_of(s))
 }
 
 // RANGE, RELATION, ROOM; then the text, and later bytes stay.
-pub fn write_text(s: Settings, out: &mut [u8]) -> Answer
-    ensures { write_out result out.new ≡ written s out.old }
+#[tactic(auto, using(crate::proofs::Writing::writing))]
+pub fn write_text(s: &Settings, out: &mut [u8]) -> Answer
+    ensures { write_out result out.new ≡ written s.now out.old }
 {
-    let a = s.check();
-    if !a.is_done() {
-        return a;
-    }
+    s.check()?;
     let numbers = numbers_of(s);
     let need = keys::lines_length(0, &numbers);
     if out.len() < need {
-        return Answer::Room(need);
+        return Err(Refusal::Room(need));
     }
     keys::put_lines(out, 0, 0, &numbers);
-    a
+    Ok(())
 }

@@ -10,20 +10,11 @@ use clock::Clock;
 use ptc::Ptc;
 
 // Each of the eight among m crossings done.
-pub fn are_sound(ptcs: [Ptc; 8], holder: u32, m: u64) -> bool
+pub fn are_sound(ptcs: &[Ptc; 8], holder: u32, m: u64) -> bool
     requires { m < 2 ^ 60 }
-    ensures { result ≡ sound_eight holder m ptcs }
+    ensures { result ≡ sound_eight holder m ptcs.now }
 {
-    let mut k = 0;
-    while k < 8 {
-        let p = ptcs[k];
-        let place = k as u32;
-        if !p.is_sound(place, place == holder, m) {
-            return false;
-        }
-        k += 1;
-    }
-    true
+    (0..8).zip(ptcs).all(|(k, p)| p.is_sound(k, k == holder, m))
 }
 
 // Controller 0's code 8 sets the orbit count to 0.
@@ -34,15 +25,14 @@ pub fn orbit_count(first: u8, orbits: u64) -> u64
 }
 
 // The clock after a crossing whose row has these bytes.
+#[tactic(auto, unfolding(crate::specs::Eight::clock_of))]
 pub fn clock_after(clock: Clock, orbit: u32, marker: bool, bytes: [u8; 8]) -> Clock
     requires { ClockRoom clock }
     ensures { result ≡ clock_of orbit clock marker bytes }
 {
-    let t = clock.ticked(orbit, marker);
+    let ticked = clock.ticked(orbit, marker);
     Clock {
-        crossings: t.crossings,
-        next: t.next,
-        orbits: orbit_count(bytes[0], t.orbits),
-        errors: t.errors,
+        orbits: orbit_count(bytes[0], ticked.orbits),
+        ..ticked
     }
 }

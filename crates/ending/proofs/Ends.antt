@@ -3,8 +3,7 @@
 use mathlib.Core.Path.{◌≡◌, sym}
 use mathlib.Core.Bool.{Bool, true, false, false≢true}
 use borrow.Author.Tests.{not-false}
-use Rattle.answer.specs.declared.Answer.{Answer}
-use Rattle.answer.specs.Told.{told, succeeded, DONE}
+use Rattle.answer.specs.Told.{Answer, told, succeeded, DONE}
 use Rattle.answer.proofs.Told.{told_done}
 use Rattle.ending.specs.Ends.{over}
 

@@ -1,13 +1,16 @@
 // How a program ends: what it prints of a refusal or an error, and its status, 0, 1 or 2.
 #![tactic(auto)]
 
-ghost use Rattle.std.specs.Prelude.{◌≡◌, is_ok, is_some};
+mod cause;
+
+ghost use Rattle.std.specs.Prelude.{◌≡◌, is_ok, is_some, not};
 ghost use Rattle.std.specs.Process.{exit_status};
 ghost use Rattle.laws.specs.Base.{if};
 ghost use Rattle.answer.specs.Told.{told};
 ghost use Rattle.ending.specs.Ends.{over};
 
 use answer::Answer;
+pub use cause::Stop;
 use std::io::{Cursor, Error, Write};
 use std::process::ExitCode;
 use std::{fmt, io, str};
@@ -89,11 +92,35 @@ pub fn misuse(rt: &impl Eprint, line: &[u8]) -> ExitCode
 pub fn refuse(rt: &(impl Print + Eprint), a: Answer) -> ExitCode
     ensures { exit_status result ≡ 1 }
 {
-    let number = a.number();
+    let number = answer::number(a);
     match println!(rt; "refused={number}") {
         Ok(()) => ExitCode::FAILURE,
         Err(error) => stop(rt, b"standard output", error),
     }
+}
+
+// The status of a program that ended so. No contract can say what is printed.
+pub fn end(rt: &(impl Print + Eprint), ended: Result<(), Stop>) -> ExitCode
+    ensures { exit_status result ≡ if (is_ok ended) 0 1 }
+{
+    let Err(why) = ended else {
+        return ExitCode::SUCCESS;
+    };
+    match why {
+        Stop::At(file, error) => stop(rt, file.as_bytes(), error),
+        Stop::Refused(refusal) => refuse(rt, Err(refusal)),
+    }
+}
+
+// What became of reading a file: an error in reading is told before what the file's bytes were answered.
+pub fn accepted(file: &'static str, failed: Option<Error>, a: Answer) -> Result<(), Stop>
+    ensures { is_ok result ≡ not (over (is_some failed) (told a)) }
+{
+    if let Some(error) = failed {
+        return Err(Stop::At(file, error));
+    }
+    a?;
+    Ok(())
 }
 
 // Whether a program is over after reading a file, of which it has then said why.
@@ -104,7 +131,7 @@ pub fn is_over(rt: &(impl Print + Eprint), file: &[u8], failed: Option<Error>, a
         stop(rt, file, error);
         return true;
     }
-    if a.is_done() {
+    if a.is_ok() {
         return false;
     }
     refuse(rt, a);

@@ -28,13 +28,13 @@ pub fn read_piece<R: Read>(file: &mut Option<R>, piece: &mut [u8]) -> Got
     ensures bytes { Consumes (left R.remaining file.old) (left R.remaining file.new) (take result.«count» piece.new) }
     ensures end { IsNone result.failed → result.«count» < length piece.new → IsAtEnd (left R.remaining file.new) }
 {
-    let mut count = 0;
     let Some(file) = file else {
         return Got {
             count: 0,
             failed: None,
         };
     };
+    let mut count = 0;
     while count < piece.len() {
         match file.read(&mut piece[count..]) {
             Ok(0) => break,

@@ -21,7 +21,7 @@ use Rattle.history.specs.Keep.{Fits, word_of, under, words_for, leading, group_i
 use Rattle.history.specs.Read.{changes_in}
 use Rattle.history.specs.Recall.{AllFit, Alike}
 use Rattle.history.proofs.Scans.{further, scanned_append, read_append, takes_within, ends_yes, start_ends, after_change, after_open, header_high, header_low}
-use Rattle.history.proofs.Ring.{content_long}
+use Rattle.history.proofs.Content.{content_long}
 use Rattle.history.proofs.Groups.{first}
 use Rattle.history.proofs.Keeps.{Sound, sound_parts_lem, parts_sound, kept_less, room_made, all_laid, big, own, keeps}
 use Rattle.history.proofs.Recall.{fit_append, fresh_sound}

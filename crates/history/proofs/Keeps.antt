@@ -20,7 +20,7 @@ use Rattle.history.specs.Scan.{start, orbit_of, takes, ends, change_of, scanned,
 use Rattle.history.specs.Store.{kept, sound_store}
 use Rattle.history.specs.Keep.{Fits, word_of, under, words_for, group_in, less_one, roomed, pushed, pushed_all, kept_with}
 use Rattle.history.specs.Read.{changes_in, read_bytes}
-use Rattle.history.proofs.Ring.{content_long, content_mod, content_drop, content_push}
+use Rattle.history.proofs.Content.{content_long, content_mod, content_drop, content_push}
 use Rattle.history.proofs.Scans.{further, bytes_long, read_short, scanned_append, read_append, takes_within, ends_yes, after_change, after_open, header_high, header_low}
 use Rattle.history.proofs.Groups.{first, quarter}
 
@@ -41,6 +41,14 @@ sound_parts_lem s e =
 pub parts_sound : (s : Store) → Sound s → sound_store s ≡ true
 unfolding sound_store
 parts_sound s p = rw (le-leb s.used 1024 p.used, lt-ltb s.oldest 1024 p.oldest) p.groups
+
+pub placed : (s : Store) → sound_store s ≡ true → s.oldest < 1024
+placed s e = (sound_parts_lem s e).oldest
+
+pub within : (s : Store) → sound_store s ≡ true → s.used ≤ 1024
+within s e = (sound_parts_lem s e).used
+
+pub ruleset bounds = (placed, within)
 
 -- no word is two changes
 pub few : (s : Store) → sound_store s ≡ true → length (changes_in s) ≤ 1024

@@ -1,4 +1,4 @@
-pub mod Ring
+pub mod Content
 pub mod Scans
 pub mod Groups
 pub mod Keeps

@@ -3,60 +3,33 @@
 use mathlib.Core.Path.{◌≡◌, sym, ap, ◌∙◌}
 use mathlib.Core.Bool.{true, false}
 use mathlib.Core.List.{List}
-use Prim.Native.Nat.{ℕ, suc, ◌+◌, ◌/◌, ◌%◌, ◌≤◌, ◌<◌}
+use Prim.Native.Nat.{ℕ, ◌/◌, ◌%◌, ◌≤◌}
 use native.Mathlib.Omega.{arith}
-use lib.ListN.{length}
+use lib.ListN.{length, drop}
 use Rattle.history.specs.declared.Store.{Store}
 use Rattle.history.specs.declared.keep.Change.{Change}
 use Rattle.history.specs.declared.keep.Pen.{Pen}
 use Rattle.history.specs.Scan.{start, after, scanned}
 use Rattle.history.specs.Store.{kept, sound_store}
-use Rattle.history.specs.Keep.{Fits, word_of, under, words_for, roomed, pushed, kept_with}
+use Rattle.history.specs.Keep.{Fits, word_of, under, words_for, leading, group_in, roomed, pushed, kept_with}
 use Rattle.history.specs.Support.Pen.{store_at, Aligned}
-use Rattle.history.proofs.Keeps.{sound_parts_lem, parts_sound, room_made, keeps}
+use Rattle.history.proofs.Content.{content_long}
+use Rattle.history.proofs.Groups.{first}
+use Rattle.history.proofs.Keeps.{sound_parts_lem, parts_sound, keeps}
 
--- room for n words
-pub record Space (n : ℕ) (p : Pen) : Type 0 where
-  pub oldest : p.oldest < 1024
-  pub used : p.used + n ≤ 1024
+-- the oldest group, where at least 4 words are in use: the header and the changes that lead behind it
+pub oldest_group : (ws : List ℕ) (p : Pen) → Aligned ws p → 4 ≤ p.used
+    → (1 ≤ leading (drop 3 (kept (store_at ws p)))) × (leading (drop 3 (kept (store_at ws p))) ≤ 64)
+unfolding group_in
+oldest_group ws p a h =
+    let f = first (kept (store_at ws p)) (sound_parts_lem _ a.sound).groups (omega (arith, content_long ws p.oldest p.used)) in
+    (omega (arith, f.least), omega (arith, f.most))
 
-pub space_room : (n : ℕ) (ws : List ℕ) (p r : Pen) → Aligned ws p → n ≤ 4 → store_at ws r ≡ roomed n (store_at ws p) → Space n r
-space_room n ws p r a h e =
-    let m = room_made (store_at ws p) (sound_parts_lem _ a.sound) n h in
-    let o = ap (λ (s : Store). s.oldest) e in
-    let u = ap (λ (s : Store). s.used) e in
-    record { oldest = rw o m.oldest; used = rw u m.used }
-
-pub space_push : (n w : ℕ) (ws vs : List ℕ) (p r : Pen) → Space (suc n) p → store_at vs r ≡ pushed (store_at ws p) w → Space n r
-unfolding pushed
-space_push n w ws vs p r a e =
-    let o = ap (λ (s : Store). s.oldest) e in
-    let u = ap (λ (s : Store). s.used) e in
-    record { oldest = rw o a.oldest; used = omega (arith, u, a.used) }
-
-module _ (ws : List ℕ) (p : Pen) (c : Change) (a : Aligned ws p) where
-  pub kept_under : under p.scan c ≡ true → kept_with (store_at ws p) c ≡ pushed (roomed 1 (store_at ws p)) (word_of c)
-  unfolding kept_with words_for
-  kept_under u = rw (← a.scan, u)
-
-  pub kept_own : under p.scan c ≡ false
-      → kept_with (store_at ws p) c ≡ pushed (pushed (pushed (pushed (roomed 4 (store_at ws p)) 0) (c.orbit / 65536)) (c.orbit % 65536)) (word_of c)
-  unfolding kept_with words_for
-  kept_own u = rw (← a.scan, u)
-
-  pub scan_under : under p.scan c ≡ true → scanned p.scan (words_for p.scan c) ≡ after p.scan (word_of c)
-  unfolding words_for scanned
-  scan_under u = rw u
-
-  pub scan_own : under p.scan c ≡ false
-      → scanned p.scan (words_for p.scan c) ≡ after (after (after (after p.scan 0) (c.orbit / 65536)) (c.orbit % 65536)) (word_of c)
-  unfolding words_for scanned
-  scan_own u = rw u
-
+module _ (ws : List ℕ) (p : Pen) (c : Change) (a : Aligned ws p) (f : Fits c) (vs : List ℕ) (r : Pen) where
   -- the store with the change, and its pen
-  pub kept_here : (vs : List ℕ) (r : Pen) → Fits c → store_at vs r ≡ kept_with (store_at ws p) c → r.scan ≡ scanned p.scan (words_for p.scan c)
+  kept_here : store_at vs r ≡ kept_with (store_at ws p) c → r.scan ≡ scanned p.scan (words_for p.scan c)
       → (store_at vs r ≡ kept_with (store_at ws p) c) × Aligned vs r
-  kept_here vs r f e q =
+  kept_here e q =
       let k = keeps (store_at ws p) c a.long a.sound f in
       let scan : scanned p.scan (words_for p.scan c) ≡ scanned start (kept (kept_with (store_at ws p) c)) = rw a.scan (sym k.scan) in (
         e,
@@ -66,3 +39,17 @@ module _ (ws : List ℕ) (p : Pen) (c : Change) (a : Aligned ws p) where
           scan = q ∙ scan ∙ sym (ap (λ (s : Store). scanned start (kept s)) e);
         },
       )
+
+  -- its one word laid under the last header
+  pub kept_under : under p.scan c ≡ true → store_at vs r ≡ pushed (roomed 1 (store_at ws p)) (word_of c) → r.scan ≡ after p.scan (word_of c)
+      → (store_at vs r ≡ kept_with (store_at ws p) c) × Aligned vs r
+  unfolding kept_with words_for scanned
+  kept_under u e q = kept_here (e ∙ rw (← a.scan, u)) (q ∙ rw u)
+
+  -- or behind a header of its own
+  pub kept_own : under p.scan c ≡ false
+      → store_at vs r ≡ pushed (pushed (pushed (pushed (roomed 4 (store_at ws p)) 0) (c.orbit / 65536)) (c.orbit % 65536)) (word_of c)
+      → r.scan ≡ after (after (after (after p.scan 0) (c.orbit / 65536)) (c.orbit % 65536)) (word_of c)
+      → (store_at vs r ≡ kept_with (store_at ws p) c) × Aligned vs r
+  unfolding kept_with words_for scanned
+  kept_own u e q = kept_here (e ∙ rw (← a.scan, u)) (q ∙ rw u)

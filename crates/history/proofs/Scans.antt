@@ -1,22 +1,23 @@
--- A scan over words laid end to end, one word further along the ring, and what a word can do to it.
+-- A scan over words laid end to end, the bytes of the changes in them, and what a word can do to it.
 -- By the definitions; a word that makes no group leaves the scan lost for good.
 use mathlib.Core.Path.{◌≡◌, refl, ap, sym, ◌∙◌}
 use mathlib.Core.Logic.{◌⊎◌, inl, inr}
 use mathlib.Core.Bool.{Bool, true, false, false≢true, ◌&&◌}
 use mathlib.Core.List.{List, [], ◌∷◌, ◌++◌, append_assoc}
-use Prim.Native.Nat.{ℕ, ◌+◌, ◌-◌, ◌*◌, ◌%◌, ◌≤◌, ◌<◌}
+use Prim.Native.Nat.{ℕ, ◌+◌, ◌*◌, ◌≤◌, ◌<◌}
 use native.Mathlib.Omega.{arith}
 use borrow.Author.Tests.{ne_eqb, lt-ltb, le-ltb, le-leb, lt-leb, leb-true, ltb-true, eqb-true}
 use lib.Dec.{eqb, leb, ltb}
-use lib.ListN.{length, get_or}
+use lib.ListN.{length, length-append}
 use Rattle.laws.specs.Base.{if, one}
 use Rattle.laws.proofs.Bools.{both, or_true, one_le}
+use Rattle.text.proofs.Bytes.{put_nil, put_append}
 use Rattle.history.specs.declared.scan.Scan.{Scan}
 use Rattle.history.specs.declared.keep.Change.{Change}
 use Rattle.history.specs.Scan.{start, lost, takes, ends, is_change, opens, after, change_of, found, scanned, read}
-use Rattle.history.specs.Store.{content}
+use Rattle.history.specs.Keep.{leading}
 use Rattle.history.specs.Read.{bytes_of, bytes_of_all}
-use Rattle.history.proofs.Ring.{content_next}
+use Rattle.std.specs.List.{prefix_len}
 
 -- ---- words laid end to end
 
@@ -37,6 +38,17 @@ unfolding bytes_of_all
 bytes_append [] m = refl
 bytes_append (c ∷ l) m = ap (λ (bs : List ℕ). bytes_of c ++ bs) (bytes_append l m) ∙ sym (append_assoc (bytes_of c) _ _)
 
+-- what one word has and what those behind it have
+pub bytes_next : (q : Scan) (w : ℕ) (l : List ℕ) → bytes_of_all (read q (w ∷ l)) ≡ bytes_of_all (found q w) ++ bytes_of_all (read (after q w) l)
+unfolding read
+bytes_next q w l = bytes_append (found q w) (read (after q w) l)
+
+pub bytes_next_long : (q : Scan) (w : ℕ) (l : List ℕ)
+    → length (bytes_of_all (read q (w ∷ l))) ≡ length (bytes_of_all (found q w)) + length (bytes_of_all (read (after q w) l))
+bytes_next_long q w l = rw bytes_next (length-append (bytes_of_all (found q w)) _)
+
+pub ruleset laying = (bytes_next, bytes_next_long, put_append, put_nil)
+
 pub bytes_long : (l : List Change) → length (bytes_of_all l) ≡ 7 * length l
 unfolding bytes_of_all bytes_of
 bytes_long [] = refl
@@ -53,26 +65,6 @@ read_short q [] = omega arith
 read_short q (w ∷ l) =
     let n = found_long (is_change q w) (change_of q w) (read (after q w) l) in
     omega (arith, n, read_short (after q w) l, one_le (is_change q w))
-
--- ---- one word further along the ring
-
-module _ (ws : List ℕ) (o n i : ℕ) (h : i < n) (q : Scan) where
-  abbrev word : ℕ
-  word = get_or ws ((o + i) % 1024) 0
-
-  abbrev rest : List ℕ
-  rest = content ws (o + (i + 1)) (n - (i + 1))
-
-  pub scan_next : scanned q (content ws (o + i) (n - i)) ≡ scanned (after q word) rest
-  unfolding scanned
-  scan_next = rw (content_next ws o n i h)
-
-  pub read_next : read q (content ws (o + i) (n - i)) ≡ found q word ++ read (after q word) rest
-  unfolding read
-  read_next = rw (content_next ws o n i h)
-
-  pub count_next : length (read q (content ws (o + i) (n - i))) ≡ one (is_change q word) + length (read (after q word) rest)
-  count_next = rw read_next (found_long (is_change q word) (change_of q word) (read (after q word) rest))
 
 -- ---- what a word can do
 
@@ -175,3 +167,9 @@ header_high b = (refl, refl)
 pub header_low : (b c : ℕ) → (is_change (record { place = 2; high = b; low = 0 }) c ≡ false) × (after (record { place = 2; high = b; low = 0 }) c ≡ record { place = 3; high = b; low = c })
 unfolding after takes
 header_low b c = (refl, refl)
+
+-- the changes that lead, as std counts them
+pub leading_prefix : (l : List ℕ) → prefix_len (λ w. leb 4096 w) l ≡ leading l
+unfolding leading
+leading_prefix [] = refl
+leading_prefix (w ∷ l) = grind (arith, leading_prefix l)

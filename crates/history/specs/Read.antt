@@ -2,8 +2,7 @@
 -- Refusals: STORE, then ROOM.
 use Rattle.std.specs.Prelude.{ℕ, zero, suc, ◌/◌, ◌%◌, List, [], ◌∷◌, ◌++◌, leb, length}
 use Rattle.laws.specs.Base.{if}
-use Rattle.answer.specs.declared.Answer.{Answer}
-use Rattle.answer.specs.Told.{Told, told, DONE, ROOM, STORE}
+use Rattle.answer.specs.Told.{Answer, Told, told, DONE, ROOM, STORE}
 use Rattle.text.specs.Bytes.{put}
 use Rattle.history.specs.declared.Store.{Store}
 use Rattle.history.specs.declared.keep.Change.{Change}

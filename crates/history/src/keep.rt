@@ -1,12 +1,12 @@
 // One change more in a store.
 ghost use Rattle.std.specs.Prelude.{◌≡◌, true, ◌+◌, ◌-◌, ◌≤◌, ◌<◌};
 ghost use Rattle.history.specs.Scan.{after};
-ghost use Rattle.history.specs.Store.{content, sound_store};
-ghost use Rattle.history.specs.Keep.{Fits, under, word_of, leading, roomed, pushed, kept_with};
+ghost use Rattle.history.specs.Store.{sound_store};
+ghost use Rattle.history.specs.Keep.{Fits, under, word_of, roomed, pushed, kept_with};
 ghost use Rattle.history.specs.Support.Pen.{store_at, pen_of, Aligned};
 
-use crate::scan::walk;
-use crate::{Scan, Store, WORDS};
+use crate::scan::CODE_WORTH;
+use crate::{Ring, Scan, Store, WORDS};
 
 // A change of the believed code: the orbit count and the number of its crossing, and the new code, 15 for disconnected.
 #[derive(Clone, Copy)]
@@ -29,94 +29,74 @@ impl Change {
         requires { Fits self }
         ensures { result ≡ word_of self }
     {
-        self.number as u16 + 4096 * self.code as u16
+        self.number as u16 + CODE_WORTH * u16::from(self.code)
     }
-}
 
-// Whether a change goes under the last header: it has the same orbit count, and fewer than 64 changes stand under it.
-fn is_under(scan: Scan, c: Change) -> bool
-    ensures { result ≡ under scan c }
-{
-    plain::both(scan.takes(), scan.orbit() == c.orbit as u64)
+    // Whether it goes under the last header: it has the same orbit count, and fewer than 64 changes stand under it.
+    #[tactic(auto, unfolding(crate::specs::Keep::under))]
+    fn is_under(self, scan: Scan) -> bool
+        ensures { result ≡ under scan self }
+    {
+        scan.takes() && scan.orbit() == self.orbit
+    }
 }
 
 impl Pen {
-    pub fn of(store: Store) -> Pen
-        requires { sound_store store ≡ true }
-        ensures { result ≡ pen_of store }
+    #[tactic(auto, using(crate::proofs::Keeps::bounds))]
+    pub fn of(store: &Store) -> Pen
+        requires { sound_store store.now ≡ true }
+        ensures { result ≡ pen_of store.now }
     {
-        let t = walk(&store.words, store.oldest, store.used);
-        let q = t.scan;
         Pen {
             oldest: store.oldest,
             used: store.used,
-            scan: q,
+            scan: store.ring().tally().scan,
         }
     }
 
-    // How many changes the oldest group has.
-    fn lead(self, words: &[u16; 1024]) -> usize
-        requires { (self.oldest < 1024) × (self.used ≤ 1024) × (3 ≤ self.used) }
-        ensures { result ≡ leading (content words.now (self.oldest + 3) (self.used - 3)) }
+    // Makes room for n words more: a group has at least 4 words and a change needs at most 4, so one group less is enough.
+    #[tactic(auto, using(crate::proofs::Keeps::bounds, crate::proofs::Pens::oldest_group), unfolding(crate::specs::Keep::roomed, crate::specs::Keep::less_one, crate::specs::Keep::group_in))]
+    fn make_room(&mut self, words: &[u16; WORDS], n: usize)
+        requires { (Aligned words.now self.old) × (n ≤ 4) }
+        ensures { (store_at words.now self.new ≡ roomed n (store_at words.now self.old)) × (self.new.scan ≡ self.old.scan) × (self.new.oldest < 1024) × (self.new.used + n ≤ 1024) }
     {
-        let mut i: usize = 3;
-        while i < self.used {
-            let w = words[(self.oldest + i) % WORDS];
-            if w < 4096 {
-                return i - 3;
-            }
-            i += 1;
+        if self.used + n <= WORDS {
+            return;
         }
-        i - 3
+        let ring = Ring {
+            words,
+            oldest: self.oldest,
+            used: self.used,
+        };
+        let gone = 3 + ring.leading();
+        self.oldest = (self.oldest + gone) % WORDS;
+        self.used -= gone;
     }
 
-    // With room for n words more: a group has at least 4 words and a change needs at most 4, so one group less is enough.
-    fn room(self, words: &[u16; 1024], n: usize) -> Pen
-        requires { (Aligned words.now self) × (n ≤ 4) }
-        ensures { (store_at words.now result ≡ roomed n (store_at words.now self)) × (result.scan ≡ self.scan) }
-    {
-        let fits = self.used + n <= WORDS;
-        if fits {
-            return self;
-        }
-        let gone = 3 + self.lead(words);
-        let q = self.scan;
-        Pen {
-            oldest: (self.oldest + gone) % WORDS,
-            used: self.used - gone,
-            scan: q,
-        }
-    }
-
-    fn push(self, words: &mut [u16; 1024], word: u16) -> Pen
-        requires { (self.oldest < 1024) × (self.used < 1024) }
-        ensures { (store_at words.new result ≡ pushed (store_at words.old self) word) × (result.scan ≡ after self.scan word) }
+    #[tactic(auto, unfolding(crate::specs::Keep::pushed))]
+    fn push(&mut self, words: &mut [u16; WORDS], word: u16)
+        requires { (self.old.oldest < 1024) × (self.old.used < 1024) }
+        ensures { (store_at words.new self.new ≡ pushed (store_at words.old self.old) word) × (self.new.scan ≡ after self.old.scan word) }
     {
         words[(self.oldest + self.used) % WORDS] = word;
-        let q = self.scan;
-        let next = q.after(word);
-        Pen {
-            oldest: self.oldest,
-            used: self.used + 1,
-            scan: next,
-        }
+        self.used += 1;
+        self.scan = self.scan.after(word);
     }
 
     // Under the last header, or under a header of its own.
-    pub fn keep(self, words: &mut [u16; 1024], c: Change) -> Pen
-        requires { (Aligned words.old self) × (Fits c) }
-        ensures { (store_at words.new result ≡ kept_with (store_at words.old self) c) × (Aligned words.new result) }
+    #[tactic(auto, unfolding(crate::specs::Keep::pushed))]
+    pub fn keep(&mut self, words: &mut [u16; WORDS], change: Change)
+        requires { (Aligned words.old self.old) × (Fits change) }
+        ensures { (store_at words.new self.new ≡ kept_with (store_at words.old self.old) change) × (Aligned words.new self.new) }
     {
-        let word = c.word();
-        let q = self.scan;
-        if is_under(q, c) {
-            let roomy = self.room(words, 1);
-            return roomy.push(words, word);
+        if change.is_under(self.scan) {
+            self.make_room(words, 1);
+        } else {
+            self.make_room(words, 4);
+            self.push(words, 0);
+            self.push(words, (change.orbit / 65536) as u16);
+            self.push(words, (change.orbit % 65536) as u16);
         }
-        let roomy = self.room(words, 4);
-        let opened = roomy.push(words, 0);
-        let half = opened.push(words, (c.orbit / 65536) as u16);
-        let headed = half.push(words, (c.orbit % 65536) as u16);
-        headed.push(words, word)
+        self.push(words, change.word());
     }
 }

@@ -1,10 +1,11 @@
 // The words of a store, split into groups: a header of three words, then 1 to 64 changes.
-ghost use Rattle.std.specs.Prelude.{◌≡◌, ◌<◌, ◌≤◌, ◌%◌, ◌/◌, length};
-ghost use Rattle.history.specs.Scan.{start, takes, ends, is_change, opens, after, orbit_of, change_of, scanned, read};
-ghost use Rattle.history.specs.Store.{content};
-ghost use Rattle.history.specs.Read.{bytes_of};
+ghost use Rattle.std.specs.Prelude.{◌≡◌, ◌<◌, ◌≤◌, ◌%◌, ◌/◌};
+ghost use Rattle.history.specs.Scan.{takes, ends, is_change, opens, after, orbit_of, change_of};
 
-use crate::WORDS;
+use crate::Change;
+
+// What a code is worth in the word of a change: it has the top four bits, the crossing number those below.
+pub(crate) const CODE_WORTH: u16 = 4096;
 
 // Where a scan stands: 0 where it begins, 1 and 2 in a header, 3 after it, 3 + n after the n-th change under it, 68 where the words
 // make no group. The two words are those of the last header's orbit count.
@@ -23,11 +24,18 @@ pub struct Tally {
 }
 
 impl Scan {
+    pub(crate) const START: Scan = Scan {
+        place: 0,
+        high: 0,
+        low: 0,
+    };
+
     // Whether a change may come next.
+    #[tactic(auto, unfolding(crate::specs::Scan::takes))]
     pub(crate) fn takes(self) -> bool
         ensures { result ≡ takes self }
     {
-        3 <= self.place && self.place < 67
+        matches!(self.place, 3..67)
     }
 
     // Whether the words may end here.
@@ -35,104 +43,67 @@ impl Scan {
     pub(crate) fn ends(self) -> bool
         ensures { result ≡ ends self }
     {
-        self.place == 0 || (4 <= self.place && self.place <= 67)
+        matches!(self.place, 0 | 4..=67)
     }
 
     pub(crate) fn is_change(self, word: u16) -> bool
         ensures { result ≡ is_change self word }
     {
-        plain::both(self.takes(), 4096 <= word)
+        self.takes() && CODE_WORTH <= word
     }
 
     // The orbit count of the last header.
-    pub(crate) fn orbit(self) -> u64
+    pub(crate) fn orbit(self) -> u32
         ensures { result ≡ orbit_of self }
     {
-        65536 * self.high as u64 + self.low as u64
+        65536 * u32::from(self.high) + u32::from(self.low)
     }
 
-    // What the read-out has of a change where the scan stands.
-    pub(crate) fn bytes(self, word: u16) -> [u8; 7]
-        ensures { result ≡ bytes_of (change_of self word) }
+    // The change that a word is where the scan stands.
+    pub(crate) fn change(self, word: u16) -> Change
+        ensures { result ≡ change_of self word }
     {
-        [
-            (self.low % 256) as u8,
-            (self.low / 256) as u8,
-            (self.high % 256) as u8,
-            (self.high / 256) as u8,
-            (word % 256) as u8,
-            (word % 4096 / 256) as u8,
-            (word / 4096) as u8,
-        ]
+        Change {
+            orbit: self.orbit(),
+            number: u32::from(word % CODE_WORTH),
+            code: (word / CODE_WORTH) as u8,
+        }
     }
 
     // Whether a word is the 0 that opens a header here.
     fn opens(self, word: u16) -> bool
         ensures { result ≡ opens self word }
     {
-        plain::both(self.ends(), word == 0)
+        self.ends() && word == 0
     }
 
+    #[tactic(auto, using(crate::proofs::Scans::takes_within), unfolding(crate::specs::Scan::after))]
     pub(crate) fn after(self, word: u16) -> Scan
         ensures { result ≡ after self word }
     {
-        if self.place == 1 {
-            return Scan {
+        match self.place {
+            1 => Scan {
                 place: 2,
                 high: word,
-                low: 0,
-            };
-        }
-        if self.place == 2 {
-            return Scan {
+                ..Scan::START
+            },
+            2 => Scan {
                 place: 3,
-                high: self.high,
                 low: word,
-            };
-        }
-        if self.is_change(word) {
-            return Scan {
+                ..self
+            },
+            _ if self.is_change(word) => Scan {
                 place: self.place + 1,
-                high: self.high,
-                low: self.low,
-            };
-        }
-        if self.opens(word) {
-            return Scan {
+                ..self
+            },
+            _ if self.opens(word) => Scan {
                 place: 1,
-                high: 0,
-                low: 0,
-            };
+                ..Scan::START
+            },
+            _ => Scan {
+                place: 68,
+                ..Scan::START
+            },
         }
-        Scan {
-            place: 68,
-            high: 0,
-            low: 0,
-        }
-    }
-}
-
-// The words in use of a ring, scanned.
-pub(crate) fn walk(words: &[u16; 1024], oldest: usize, used: usize) -> Tally
-    requires { (oldest < 1024) × (used ≤ 1024) }
-    ensures { (result.scan ≡ scanned start (content words.now oldest used)) × (result.changes ≡ length (read start (content words.now oldest used))) }
-{
-    let mut q = Scan {
-        place: 0,
-        high: 0,
-        low: 0,
-    };
-    let mut n: usize = 0;
-    let mut i: usize = 0;
-    while i < used {
-        let w = words[(oldest + i) % WORDS];
-        n += plain::one(q.is_change(w)) as usize;
-        let next = q.after(w);
-        q = next;
-        i += 1;
-    }
-    Tally {
-        scan: q,
-        changes: n,
     }
 }

@@ -8,6 +8,7 @@ use lib.ListN.{length, drop, get_or, length-drop}
 use lib.Seq.{get_or-drop}
 use Rattle.text.specs.Bytes.{put}
 use Rattle.text.specs.Lines.{keys_of, line_head, line_text, lines_text}
+use Rattle.text.proofs.Bytes.{put_nil}
 use Rattle.text.proofs.Walk.{length_more, put_more, text_end, text_within}
 use Rattle.keys.specs.Settings.{newest, table_of}
 use Rattle.keys.specs.Report.{common_keys, block_keys}
@@ -20,24 +21,25 @@ use Rattle.keys.proofs.Parts.{key_count_lem}
 abbrev pub Left : ℕ → List ℕ → ℕ → List ℕ
 Left first vs n = lines_text (drop n (drop first keys)) (drop n vs)
 
-module _ (first : ℕ) (vs : List ℕ) (n : ℕ) (fits : first + length vs ≤ key_count) (more : n < length vs)
-    (k : ℕ) (place : k ≡ first + n) (v : ℕ) (is : v ≡ get_or vs n 0) where
+module _ (first : ℕ) (vs : List ℕ) (n : ℕ) (fits : first + length vs ≤ key_count) (more : n < length vs) where
   inside : n < length (drop first keys)
   inside = rw length-drop (omega (arith, key_count_lem))
 
-  key_is : get_or (drop first keys) n [] ≡ key_at k
+  key_is : get_or (drop first keys) n [] ≡ key_at (first + n)
   unfolding key_at
-  key_is = rw place (get_or-drop first keys n [])
+  key_is = get_or-drop first keys n []
 
-  pub longer : length (Left first vs n) ≡ length (line_text (line_head (key_at k)) v) + length (Left first vs (n + 1))
-  longer = rw (is, ← key_is) (length_more (drop first keys) vs n [] inside more)
+  pub longer : length (Left first vs n) ≡ length (line_text (line_head (key_at (first + n))) (get_or vs n 0)) + length (Left first vs (n + 1))
+  longer = rw (← key_is) (length_more (drop first keys) vs n [] inside more)
 
-  pub laid_on : (o : List ℕ) (at : ℕ) → at + length (line_text (line_head (key_at k)) v) ≤ length o
-      → put o at (Left first vs n) ≡ put (put o at (line_text (line_head (key_at k)) v)) (at + length (line_text (line_head (key_at k)) v)) (Left first vs (n + 1))
-  laid_on o at = rw (is, ← key_is) (put_more (drop first keys) vs n [] inside more o at)
+  pub laid_on : (o : List ℕ) (at : ℕ) → at + length (line_text (line_head (key_at (first + n))) (get_or vs n 0)) ≤ length o
+      → put o at (Left first vs n) ≡ put (put o at (line_text (line_head (key_at (first + n))) (get_or vs n 0))) (at + length (line_text (line_head (key_at (first + n))) (get_or vs n 0))) (Left first vs (n + 1))
+  laid_on o at = rw (← key_is) (put_more (drop first keys) vs n [] inside more o at)
 
 pub left_none : (first : ℕ) (vs : List ℕ) (n : ℕ) → length vs ≤ n → Left first vs n ≡ []
 left_none first vs n = text_end (drop first keys) vs n
+
+pub ruleset line_after_line = (longer, laid_on, left_none, put_nil)
 
 -- ---- which keys these are
 

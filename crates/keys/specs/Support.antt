@@ -1,4 +1,3 @@
 -- What the code goes by and no reader of document 01 has to believe: the laws in proofs/ tie it to the definitions beside this folder.
 pub mod Lines
 pub mod Places
-pub mod Spans

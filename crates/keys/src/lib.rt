@@ -8,12 +8,10 @@ ghost use Rattle.text.specs.Bytes.{put, starts};
 ghost use Rattle.text.specs.Lines.{line_head, line_text, lines_text};
 ghost use Rattle.text.specs.Support.Seen.{LineIs};
 ghost use Rattle.keys.specs.Keys.{keys, key_at, key_count, line_most};
-ghost use Rattle.keys.specs.Support.Places.{start_of};
-ghost use Rattle.keys.specs.Support.Spans.{SpanIs};
 
-pub use ranges::{high_values, low_values, range};
+pub use ranges::range;
 
-const KEYS: [u8; 1489] = *b"edition=\
+static KEYS: [u8; 1489] = *b"edition=\
     orbit=gap_low=gap_high=\
     r1_gap=r2_period=r2_norm=r2_low=r3_period=r3_norm=r3_low=r4_period=r4_norm=r4_low=\
     ignore_disc=ignore_bad=settle_resync=settle_hard=recover_resync=recover_hard=\
@@ -38,7 +36,7 @@ const KEYS: [u8; 1489] = *b"edition=\
     cal_requested=cal_accepted=cal_lost=events=";
 
 // Where each key begins, and where the last ends.
-const STARTS: [usize; 182] = [
+static STARTS: [usize; 182] = [
     0, 8, 14, 22, 31, 38, 48, 56, 63, 73, 81, 88, 98, 106, 113, 125, 136, 150, 162, 177, 190, 196,
     202, 208, 214, 220, 226, 232, 238, 246, 253, 264, 273, 281, 289, 299, 308, 316, 324, 332, 340,
     347, 358, 367, 375, 383, 393, 402, 410, 418, 426, 434, 441, 452, 461, 469, 477, 487, 496, 504,
@@ -52,28 +50,12 @@ const STARTS: [usize; 182] = [
     1489,
 ];
 
-// The part of `KEYS` that is one key with its `=`.
-#[derive(Drop)]
-struct Span {
-    start: usize,
-    end: usize,
-}
-
-fn start(n: usize) -> usize
-    requires { n ≤ key_count }
-    ensures { result ≡ start_of keys n }
-{
-    STARTS[n]
-}
-
-fn span_of(n: usize) -> Span
+// Key n with its `=`.
+fn key(n: usize) -> &'static [u8]
     requires { n < key_count }
-    ensures { SpanIs n result }
+    ensures { result.now ≡ line_head (key_at n) }
 {
-    Span {
-        start: start(n),
-        end: start(n + 1),
-    }
+    &KEYS[STARTS[n]..STARTS[n + 1]]
 }
 
 // Whether the text begins with key n and its `=`.
@@ -81,21 +63,20 @@ pub fn begins(text: &[u8], n: usize) -> bool
     requires { n < key_count }
     ensures { result ≡ starts (line_head (key_at n)) text.now }
 {
-    let key = span_of(n);
-    let a = key.start;
-    let e = key.end;
-    text::starts_with(text, 0, &KEYS[a..e])
+    text::starts_with(text, 0, key(n))
 }
 
 // Reads the line of key n at a place of the text.
-pub fn read_line(text: &[u8], at: usize, n: usize, range: text::Range) -> text::Line
+pub fn read_line(
+    text: &[u8],
+    at: usize,
+    n: usize,
+    range: text::Range,
+) -> Result<(u32, usize), text::LineFault>
     requires { (n < key_count) × (at ≤ length text.now) × (0 < range.digits) × (range.digits ≤ 8) }
     ensures { LineIs text.now at (line_head (key_at n)) range result }
 {
-    let key = span_of(n);
-    let a = key.start;
-    let e = key.end;
-    text::read_line(text, at, &KEYS[a..e], range)
+    text::read_line(text, at, key(n), range)
 }
 
 // Lays the line of key n into the buffer, and answers the place after it.
@@ -103,45 +84,40 @@ pub fn put_line(out: &mut [u8], at: usize, n: usize, v: u64) -> usize
     requires { (n < key_count) × (at + length (line_text (line_head (key_at n)) v) ≤ length out.old) }
     ensures { (result ≡ at + length (line_text (line_head (key_at n)) v)) × (out.new ≡ put out.old at (line_text (line_head (key_at n)) v)) }
 {
-    let key = span_of(n);
-    let a = key.start;
-    let e = key.end;
-    text::put_line(out, at, &KEYS[a..e], v)
+    text::put_line(out, at, key(n), v)
 }
 
 // How long that line is.
+#[tactic(auto, using(crate::proofs::Parts::short, text::proofs::Decimal::digits_most, text::proofs::Rows::row_length))]
 pub fn line_length(n: usize, v: u64) -> usize
     requires { n < key_count }
     ensures { (result ≡ length (line_text (line_head (key_at n)) v)) × (result ≤ line_most) }
 {
-    let key = span_of(n);
-    key.end - key.start + text::width(v) + 1
+    key(n).len() + text::width(v) + 1
 }
 
 // Lays the lines of the keys from `first` on, one for each value, and answers the place after them.
+#[tactic(auto, using(crate::proofs::Writing::line_after_line))]
 pub fn put_lines(out: &mut [u8], at: usize, first: usize, values: &[u64]) -> usize
     requires { (first + length values.now ≤ key_count) × (at + length (lines_text (drop first keys) values.now) ≤ length out.old) }
     ensures { (result ≡ at + length (lines_text (drop first keys) values.now)) × (out.new ≡ put out.old at (lines_text (drop first keys) values.now)) }
 {
     let mut place = at;
-    let mut n = 0;
-    while n < values.len() {
-        place = put_line(out, place, first + n, values[n]);
-        n += 1;
+    for (n, value) in values.iter().enumerate() {
+        place = put_line(out, place, first + n, *value);
     }
     place
 }
 
 // How long those lines are.
+#[tactic(auto, using(crate::proofs::Writing::line_after_line))]
 pub fn lines_length(first: usize, values: &[u64]) -> usize
     requires { first + length values.now ≤ key_count }
     ensures { (result ≡ length (lines_text (drop first keys) values.now)) × (result ≤ line_most * length values.now) }
 {
-    let mut sum: usize = 0;
-    let mut n = 0;
-    while n < values.len() {
-        sum += line_length(first + n, values[n]);
-        n += 1;
+    let mut sum = 0;
+    for (n, value) in values.iter().enumerate() {
+        sum += line_length(first + n, *value);
     }
     sum
 }

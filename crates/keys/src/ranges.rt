@@ -1,120 +1,49 @@
 // The ranges of the lines of the settings text, by the places of their keys.
 ghost use Rattle.std.specs.Prelude.{◌≡◌, ◌<◌, ◌≤◌};
-ghost use Rattle.keys.specs.Support.Lines.{line_count, low_values, high_values, range_at};
+ghost use Rattle.keys.specs.Support.Lines.{line_count, limits_of, range_at};
 
 use text::Range;
 
-const LOWS: [u32; 160] = [
-    // edition
-    2,
-    // orbit
-    64,
-    // gap_low, gap_high
-    0, 0,
-    // r1_gap
-    2,
-    // r2_period, r2_norm, r2_low
-    1, 0, 0,
-    // r3_period, r3_norm, r3_low
-    64, 0, 0,
-    // r4_period, r4_norm, r4_low
-    1, 0, 0,
-    // ignore_disc, ignore_bad
-    0, 0,
-    // settle_resync, settle_hard, recover_resync, recover_hard
-    0, 0, 0, 0,
-    // slot0 to slot7
-    0, 0, 0, 0, 0, 0, 0, 0,
-    // at0_bc0 to at0_cal
-    0, 0, 0, 0, 0, 0, 0, 0, 0, 0, 0,
-    // at1_bc0 to at1_cal
-    0, 0, 0, 0, 0, 0, 0, 0, 0, 0, 0,
-    // at2_bc0 to at2_cal
-    0, 0, 0, 0, 0, 0, 0, 0, 0, 0, 0,
-    // at3_bc0 to at3_cal
-    0, 0, 0, 0, 0, 0, 0, 0, 0, 0, 0,
-    // at4_bc0 to at4_cal
-    0, 0, 0, 0, 0, 0, 0, 0, 0, 0, 0,
-    // at5_bc0 to at5_cal
-    0, 0, 0, 0, 0, 0, 0, 0, 0, 0, 0,
-    // at6_bc0 to at6_cal
-    0, 0, 0, 0, 0, 0, 0, 0, 0, 0, 0,
-    // at7_bc0 to at7_cal
-    0, 0, 0, 0, 0, 0, 0, 0, 0, 0, 0,
-    // part0 to part31
-    0, 0, 0, 0, 0, 0, 0, 0, 0, 0, 0, 0, 0, 0, 0, 0, 0, 0, 0, 0, 0, 0, 0, 0, 0, 0, 0, 0, 0, 0, 0, 0,
-    // warn_blocks
-    0,
-    // at_bc0 to at_cal
-    0, 0, 0, 0, 0, 0, 0, 0, 0, 0, 0,
-];
-
-const HIGHS: [u32; 160] = [
-    // edition
-    3,
-    // orbit
-    4096,
-    // gap_low, gap_high
-    4095, 4095,
-    // r1_gap
-    7,
-    // r2_period, r2_norm, r2_low
-    63, 15, 15,
-    // r3_period, r3_norm, r3_low
-    176, 63, 63,
-    // r4_period, r4_norm, r4_low
-    2047, 511, 511,
-    // ignore_disc, ignore_bad
-    1, 1,
-    // settle_resync, settle_hard, recover_resync, recover_hard
-    255, 255, 255, 255,
-    // slot0 to slot7
-    255, 255, 255, 255, 255, 255, 255, 255,
-    // at0_bc0 to at0_cal
-    4095, 4095, 4095, 4095, 4095, 4095, 4095, 4095, 4095, 4095, 4095,
-    // at1_bc0 to at1_cal
-    4095, 4095, 4095, 4095, 4095, 4095, 4095, 4095, 4095, 4095, 4095,
-    // at2_bc0 to at2_cal
-    4095, 4095, 4095, 4095, 4095, 4095, 4095, 4095, 4095, 4095, 4095,
-    // at3_bc0 to at3_cal
-    4095, 4095, 4095, 4095, 4095, 4095, 4095, 4095, 4095, 4095, 4095,
-    // at4_bc0 to at4_cal
-    4095, 4095, 4095, 4095, 4095, 4095, 4095, 4095, 4095, 4095, 4095,
-    // at5_bc0 to at5_cal
-    4095, 4095, 4095, 4095, 4095, 4095, 4095, 4095, 4095, 4095, 4095,
-    // at6_bc0 to at6_cal
-    4095, 4095, 4095, 4095, 4095, 4095, 4095, 4095, 4095, 4095, 4095,
-    // at7_bc0 to at7_cal
-    4095, 4095, 4095, 4095, 4095, 4095, 4095, 4095, 4095, 4095, 4095,
-    // part0 to part31
-    8, 8, 8, 8, 8, 8, 8, 8, 8, 8, 8, 8, 8, 8, 8, 8, 8, 8, 8, 8, 8, 8, 8, 8, 8, 8, 8, 8, 8, 8, 8, 8,
-    // warn_blocks
-    1,
-    // at_bc0 to at_cal
-    4095, 4095, 4095, 4095, 4095, 4095, 4095, 4095, 4095, 4095, 4095,
-];
-
-// A constant array is laid on the stack at each use, so a loop over the lines takes these once and lends them.
-pub fn low_values() -> [u32; 160]
-    ensures { result ≡ low_values }
+// The least and the greatest value of line n.
+fn limits(n: usize) -> (u32, u32)
+    ensures { result ≡ limits_of n }
 {
-    LOWS
-}
-
-pub fn high_values() -> [u32; 160]
-    ensures { result ≡ high_values }
-{
-    HIGHS
+    match n {
+        // edition
+        0 => (2, 3),
+        // orbit
+        1 => (64, 4096),
+        // r1_gap
+        4 => (2, 7),
+        // r2_period, r2_norm, r2_low
+        5 => (1, 63),
+        6 | 7 => (0, 15),
+        // r3_period, r3_norm, r3_low
+        8 => (64, 176),
+        9 | 10 => (0, 63),
+        // r4_period, r4_norm, r4_low
+        11 => (1, 2047),
+        12 | 13 => (0, 511),
+        // ignore_disc, ignore_bad, warn_blocks
+        14 | 15 | 148 => (0, 1),
+        // settle_resync to recover_hard, slot0 to slot7
+        16..=27 => (0, 255),
+        // part0 to part31
+        116..=147 => (0, 8),
+        // gap_low, gap_high, and the schedules
+        _ => (0, 4095),
+    }
 }
 
 // Every line has at most five digits.
-pub fn range(lows: &[u32; 160], highs: &[u32; 160], n: usize) -> Range
-    requires { (n < line_count) × (lows.now ≡ low_values) × (highs.now ≡ high_values) }
+pub fn range(n: usize) -> Range
+    requires { n < line_count }
     ensures { (result ≡ range_at n) × (0 < result.digits) × (result.digits ≤ 8) }
 {
+    let (low, high) = limits(n);
     Range {
-        low: lows[n],
-        high: highs[n],
+        low,
+        high,
         digits: 5,
     }
 }

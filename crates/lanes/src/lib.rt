@@ -7,16 +7,19 @@ ghost use Rattle.status.specs.Support.Merger.{half};
 ghost use Rattle.lanes.specs.Support.Lanes.{bit_of, in_lane, in_all, rank_of, entry_of, table_of, pair_of, lanes_of, top_of, class_in, lane_classes};
 
 use status::Merger;
+use std::array;
 
+#[tactic(auto, unfolding(crate::specs::Support::Lanes::bit_of))]
 fn bit(rank: u8) -> u64
     ensures { (result ≡ bit_of rank) × (result < 256) }
 {
-    if rank == 0 {
-        return 0;
+    match rank {
+        1..=7 => 1 << rank,
+        _ => 0,
     }
-    if rank < 8 { 1u64 << rank } else { 0 }
 }
 
+#[tactic(auto, unfolding(crate::specs::Support::Lanes::in_lane))]
 fn in_lane(bit: u64, k: u32) -> u64
     requires { bit < 256 }
     ensures { result ≡ in_lane bit k }
@@ -24,6 +27,7 @@ fn in_lane(bit: u64, k: u32) -> u64
     if k < 8 { bit << 8 * k } else { 0 }
 }
 
+#[tactic(auto, unfolding(crate::specs::Support::Lanes::in_all))]
 fn in_all(bit: u64) -> u64
     requires { bit < 256 }
     ensures { result ≡ in_all bit }
@@ -34,12 +38,10 @@ fn in_all(bit: u64) -> u64
 fn half_at(input: usize) -> usize
     ensures { (result ≡ half input) × (result ≤ 16) }
 {
-    if input < 24 {
-        return 0;
-    }
-    if input <= 31 { 16 } else { 0 }
+    if status::is_emulator(input) { 16 } else { 0 }
 }
 
+#[tactic(auto, unfolding(crate::specs::Support::Lanes::rank_of))]
 fn rank_at(ranks: &[u8; 32], n: usize) -> u8
     requires { n < 656 }
     ensures { result ≡ rank_of ranks.now n }
@@ -47,69 +49,57 @@ fn rank_at(ranks: &[u8; 32], n: usize) -> u8
     ranks[half_at(n / 16) + n % 16]
 }
 
-fn entry(owners: &[u32; 40], ranks: &[u8; 32], n: usize) -> u64
+#[tactic(auto, unfolding(crate::specs::Support::Lanes::entry_of))]
+fn entry(m: &Merger, n: usize) -> u64
     requires { n < 656 }
-    ensures { result ≡ entry_of owners.now ranks.now n }
+    ensures { result ≡ entry_of m.now.owners m.now.ranks n }
 {
-    let b = bit(rank_at(ranks, n));
+    let b = bit(rank_at(&m.ranks, n));
     if n < 640 {
-        in_lane(b, owners[n / 16])
+        in_lane(b, m.owners[n / 16])
     } else {
         in_all(b)
     }
 }
 
-// For each input and code the word that it merges in, made once for many crossings; at 640 those of the GTFE code. The two arrays are
-// lent, since a merger by value would be copied at each of the places.
+// For each input and code the word that it merges in, made once for many crossings; at 640 those of the GTFE code. The merger is
+// lent, since by value it would be copied at each of the places.
 pub fn table(m: Merger) -> [u64; 656]
     ensures { result ≡ table_of m }
 {
-    let owners = m.owners;
-    let ranks = m.ranks;
-    let mut t = [0u64; 656];
-    let mut n = 0;
-    while n < 656 {
-        t[n] = entry(&owners, &ranks, n);
-        n += 1;
-    }
-    t
+    array::from_fn(|n| entry(&m, n))
 }
 
-fn place(x: u8) -> usize
-    ensures { (result ≡ x) × (result < 256) }
-{
-    x as usize
-}
-
+#[tactic(auto, unfolding(crate::specs::Support::Lanes::pair_of))]
 fn pair(t: &[u64; 656], codes: &[u8; 21], j: usize) -> u64
     requires { j < 20 }
     ensures { result ≡ pair_of t.now codes.now j }
 {
-    let b = place(codes[1 + j]);
+    let b = usize::from(codes[1 + j]);
     t[32 * j + b % 16] | t[32 * j + 16 + b / 16]
 }
 
+#[tactic(auto, unfolding(crate::specs::Support::Lanes::lanes_of))]
 fn lanes(t: &[u64; 656], codes: &[u8; 21]) -> u64
     requires { get_or codes.now 0 0 < 16 }
     ensures { result ≡ lanes_of t.now codes.now 20 }
 {
-    let gtfe = place(codes[0]);
-    let mut all = t[640 + gtfe];
-    let mut j = 0;
-    while j < 20 {
-        all = all | pair(t, codes, j);
-        j += 1;
+    let mut all = t[640 + usize::from(codes[0])];
+    for j in 0..20 {
+        all |= pair(t, codes, j);
     }
     all
 }
 
 // Bit 0 is set so that there is a highest bit; it is no class.
+#[tactic(auto, using(crate::proofs::Tops::odd, crate::proofs::Tops::top_from))]
 fn top(x: u64) -> u32
     ensures { (result ≡ top_of x) × (result ≤ 63) }
 {
-    63 - u64::leading_zeros(1 | x)
+    (1 | x).ilog2()
 }
 
+#[tactic(auto, unfolding(crate::specs::Support::Lanes::class_in))]
 fn class_in(lanes: u64, k: usize) -> u8
     requires { k < 8 }
     ensures { result ≡ class_in lanes k }
@@ -123,11 +113,5 @@ pub fn merge(t: &[u64; 656], codes: &[u8; 21]) -> [u8; 8]
     ensures { result ≡ lane_classes t.now codes.now }
 {
     let all = lanes(t, codes);
-    let mut classes = [0u8; 8];
-    let mut k = 0;
-    while k < 8 {
-        classes[k] = class_in(all, k);
-        k += 1;
-    }
-    classes
+    array::from_fn(|k| class_in(all, k))
 }

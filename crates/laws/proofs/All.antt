@@ -1,13 +1,14 @@
 -- Laws of `all_b` and `all_i`: what holds of all holds at each place, a map keeps it, and a loop that stops at the first failure decides it.
 -- By induction on the list; the loop's laws open one element of what is left.
-use mathlib.Core.Path.{◌≡◌, refl}
-use mathlib.Core.Bool.{Bool, true, false}
+use mathlib.Core.Path.{◌≡◌, refl, ap}
+use mathlib.Core.Bool.{Bool, true, false, ◌&&◌}
 use mathlib.Core.List.{List, [], ◌∷◌}
 use Prim.Native.Nat.{ℕ, zero, suc, ◌+◌, ◌≤◌, ◌<◌}
 use native.Mathlib.Nat.{add-zero, add-suc, suc-add, le_of_suc-le-suc, not-suc-le-zero}
 use native.Mathlib.Numerals.{add-one}
 use lib.ListN.{length, get_or, set, drop, drop_of_length-le}
 use lib.Seq.{drop-cons}
+use Rattle.std.specs.List.{list_all}
 use Rattle.laws.specs.Base.{all_b, all_i, map_i}
 use Rattle.laws.proofs.Bools.{both, and_yes}
 
@@ -16,6 +17,12 @@ unfolding all_b
 all_get p [] n d e h = absurd (not-suc-le-zero h)
 all_get p (a ∷ l) zero d e h = (both (p a) (all_b p l) e).0
 all_get p (a ∷ l) (suc n) d e h = all_get p l n d (both (p a) (all_b p l) e).1 (le_of_suc-le-suc h)
+
+-- std has the word too, in the contract of `all`
+pub list_all-all_b : {A : Type 0} (p : A → Bool) (l : List A) → list_all p l ≡ all_b p l
+unfolding all_b
+list_all-all_b p [] = refl
+list_all-all_b p (a ∷ l) = ap (λ (b : Bool). p a && b) (list_all-all_b p l)
 
 -- what each step keeps, the map keeps
 pub all-map_i : {A B : Type 0} (p : A → Bool) (q : B → Bool) (f : ℕ → A → B) → ((i : ℕ) (a : A) → p a ≡ true → q (f i a) ≡ true)

@@ -14,7 +14,7 @@ pub fn both(a: bool, b: bool) -> bool
 pub fn one(t: bool) -> u64
     ensures { result ≡ one t }
 {
-    if t { 1 } else { 0 }
+    u64::from(t)
 }
 
 pub fn least(a: u64, b: u64) -> u64

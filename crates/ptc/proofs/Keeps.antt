@@ -2,21 +2,22 @@
 -- Each part of the soundness is kept by a law of its own; here they are put together.
 use mathlib.Core.Path.{◌≡◌, refl}
 use mathlib.Core.Logic.{⊎_elim}
-use mathlib.Core.Bool.{Bool, true, false, not, ◌&&◌, ◌||◌, false≢true}
+use mathlib.Core.Bool.{Bool, true, false, not, ◌&&◌}
 use Prim.Native.Nat.{ℕ, ◌+◌, ◌≤◌, ◌<◌, ◌^◌}
 use native.Mathlib.Omega.{arith}
-use borrow.Author.Tests.{le-leb, leb-true, ne_eqb}
+use borrow.Author.Rules.{rules}
+use borrow.Author.Tests.{ne_eqb}
 use lib.Dec.{eqb}
 use Rattle.laws.specs.Base.{if}
-use Rattle.laws.proofs.Bools.{both, and_yes, one_le, if_most}
-use Rattle.laws.proofs.Tests.{either, same_or_not}
+use Rattle.laws.proofs.Tests.{tests, either, same_or_not}
+use Rattle.settings.specs.declared.names.Schedule.{Schedule}
 use Rattle.settings.specs.declared.names.Waits.{Waits}
 use Rattle.states.specs.Names.{running}
 use Rattle.states.specs.Commands.{takes}
 use Rattle.states.specs.Moves.{moved_of}
 use Rattle.states.specs.Sound.{sound_state, sound_waits}
 use Rattle.states.proofs.Keeps.{moved_sound, command_sound}
-use Rattle.counts.specs.Counts.{fate_of, no_counts}
+use Rattle.counts.specs.Counts.{fate_of}
 use Rattle.counts.specs.Sound.{sound_counts}
 use Rattle.counts.proofs.Balance.{counts_read, counted_sound, none_sound, fate_once}
 use Rattle.ptc.specs.declared.Ptc.{Ptc}
@@ -27,7 +28,6 @@ use Rattle.ptc.specs.Crossing.{rule_in, events_of, crossed_of}
 use Rattle.ptc.specs.Command.{armed_ptc, led_ptc, commanded_of}
 use Rattle.ptc.specs.Support.Room.{Room}
 use Rattle.ptc.specs.Sound.{sound_cycle, sound_ptc}
-use Rattle.ptc.proofs.Cycles.{cycle_sound}
 
 -- the parts of the test
 pub record Sound (k : ℕ) (own : Bool) (m : ℕ) (p : Ptc) : Type 0 where
@@ -38,18 +38,20 @@ pub record Sound (k : ℕ) (own : Bool) (m : ℕ) (p : Ptc) : Type 0 where
 
 pub sound_read : (k : ℕ) (own : Bool) (m : ℕ) (p : Ptc) → sound_ptc k own m p ≡ true → Sound k own m p
 unfolding sound_ptc
-sound_read k own m p e =
-    let a = both (sound_state k p.state p.wait) _ e in
-    let b = both (sound_cycle own p.state p.cycle) _ a.1 in
-    let c = both (sound_counts m p.counts) _ b.1 in
-    record { stands = a.0; cycle = b.0; counts = c.0; events = leb-true _ _ c.1 }
+sound_read k own m p e = grind arith
 
 make : (k : ℕ) (own : Bool) (m : ℕ) (p : Ptc) → Sound k own m p → sound_ptc k own m p ≡ true
 unfolding sound_ptc
-make k own m p s = and_yes _ _ s.stands (and_yes _ _ s.cycle (and_yes _ _ s.counts (le-leb _ _ s.events)))
+make k own m p s = search (rules, tests)
 
 events_most : (step events m : ℕ) (sent cal : Bool) → events ≤ m → events_of step events sent cal ≤ m + 1
-events_most step events m sent cal h = omega (arith, if_most (eqb step 7) 0 events m (omega arith) h, one_le (sent || cal))
+events_most step events m sent cal h = grind arith
+
+-- whoever held the slot before
+cycle_sound : (at : Schedule) (number : ℕ) (before own : Bool) (old s c : ℕ) (asks : Bool) → sound_cycle before old c ≡ true
+    → sound_cycle own s (if asks 0 (opened_of at number own (kept_of s own c))) ≡ true
+unfolding kept_of opened_of
+cycle_sound at number before own old s c asks e = grind arith
 
 -- the holder may be another one than before
 pub crossed_sound : (plan : Plan) (scene : Scene) (k class : ℕ) (asked own : Bool) (m : ℕ) (p : Ptc) → sound_waits plan.waits ≡ true
@@ -77,23 +79,18 @@ crossed_sound plan scene k class asked own m p w e =
 -- CALIBRATE is taken in READY and WARN alone
 calibrates : (s : ℕ) (cycle : Bool) → takes 5 s cycle ≡ true → running s ≡ true
 unfolding takes
-calibrates s true e = absurd (false≢true e)
-calibrates s false e = e
+calibrates s cycle e = grind arith
 
 module _ (w : Waits) (k : ℕ) (own : Bool) (m : ℕ) (p : Ptc) (waits : sound_waits w ≡ true) (s : Sound k own m p) where
   armed_sound : running p.state ≡ true → Sound k own m (armed_ptc p)
   armed_sound e = record { stands = s.stands; cycle = rw e; counts = s.counts; events = s.events }
-
-  counts_after_sound : (t : Bool) → sound_counts m (if t no_counts p.counts) ≡ true
-  counts_after_sound true = none_sound m
-  counts_after_sound false = s.counts
 
   led_sound : (command : ℕ) → (command ≡ 5 → ⊥) → Sound k own m (led_ptc w command p)
   led_sound command n =
       record {
         stands = rw (ne_eqb command 5 n) at (command_sound w k command p.state p.wait waits s.stands);
         cycle = refl;
-        counts = counts_after_sound (eqb command 1);
+        counts = grind (arith, none_sound m);
         events = s.events;
       }
 

@@ -1,5 +1,3 @@
-pub mod Built
-pub mod Cycles
 pub mod Keeps
 pub mod Triggers
 pub mod Rest

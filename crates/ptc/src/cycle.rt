@@ -12,42 +12,40 @@ pub(crate) const ARMED: u8 = 1;
 pub(crate) const OPEN: u8 = 2;
 
 // What is left of a cycle in the state after the move.
+#[tactic(auto, unfolding(crate::specs::Cycle::kept_of))]
 pub(crate) fn kept(state: u8, own: bool, cycle: u8) -> u8
     ensures { result ≡ kept_of state own cycle }
 {
-    if !is_running(state) {
-        return NONE;
+    match cycle {
+        _ if !is_running(state) => NONE,
+        OPEN if !own => NONE,
+        _ => cycle,
     }
-    if own {
-        return cycle;
-    }
-    if cycle == OPEN { NONE } else { cycle }
 }
 
+#[tactic(auto, unfolding(crate::specs::Cycle::opened_of))]
 pub(crate) fn opened(at: Schedule, number: u32, own: bool, cycle: u8) -> u8
     ensures { result ≡ opened_of at number own cycle }
 {
-    if cycle != ARMED {
-        return cycle;
+    if cycle == ARMED && own && number == at.wte {
+        OPEN
+    } else {
+        cycle
     }
-    if !own {
-        return cycle;
-    }
-    if number == at.wte { OPEN } else { cycle }
 }
 
+#[tactic(auto, unfolding(crate::specs::Cycle::cycle_code))]
 pub(crate) fn cycle_code(at: Schedule, number: u32, before: u8, now: u8) -> u8
     ensures { result ≡ cycle_code at number before now }
 {
-    if now != OPEN {
-        return 0;
+    match (before, now) {
+        (ARMED, OPEN) => 13,
+        (_, OPEN) if number == at.te => 2,
+        _ => 0,
     }
-    if before == ARMED {
-        return 13;
-    }
-    if number == at.te { 2 } else { 0 }
 }
 
+#[tactic(auto, unfolding(crate::specs::Cycle::asks_of))]
 pub(crate) fn asks_trigger(at: Schedule, number: u32, cycle: u8) -> bool
     ensures { result ≡ asks_of at number cycle }
 {

@@ -4,22 +4,21 @@
 mod cycle;
 mod sound;
 
-ghost use Rattle.std.specs.Prelude.{◌≡◌, ◌||◌, ◌<◌, ◌^◌, eqb};
-ghost use Rattle.laws.specs.Base.{if};
-ghost use Rattle.counts.specs.Counts.{no_counts};
+ghost use Rattle.std.specs.Prelude.{◌≡◌, ◌<◌, ◌^◌};
 ghost use Rattle.ptc.specs.Support.Room.{Room};
 ghost use Rattle.ptc.specs.Fresh.{fresh_ptc};
 ghost use Rattle.ptc.specs.Crossing.{rule_in, code_of, events_of, crossed_of};
 ghost use Rattle.states.specs.Moves.{orbit_code};
 ghost use Rattle.ptc.specs.Support.Rest.{at_rest, rested_of};
 ghost use Rattle.ptc.specs.Support.Times.{schedule_from, plan_from};
-ghost use Rattle.ptc.specs.Command.{armed_ptc, led_ptc, commanded_of};
+ghost use Rattle.ptc.specs.Command.{led_ptc, commanded_of};
 
 use counts::Counts;
-use cycle::{OPEN, asks_trigger, cycle_code, kept, opened};
+use cycle::{ARMED, NONE, OPEN, asks_trigger, cycle_code, kept, opened};
 use settings::{Gap, Schedule, Waits};
+use states::{CALIBRATE, START, WARN};
 
-#[derive(Clone, Copy)]
+#[derive(Clone, Copy, Debug, Default, PartialEq, Eq)]
 pub struct Ptc {
     pub state: u8,
     pub wait: u32,
@@ -56,12 +55,6 @@ pub struct Crossed {
     pub cal: bool,
 }
 
-#[derive(Clone, Copy)]
-pub struct Commanded {
-    pub ptc: Ptc,
-    pub taken: bool,
-}
-
 // Controller k's schedule, of those of all eight.
 pub fn schedule_of(times: &[u32; 88], k: u32) -> Schedule
     ensures { result ≡ schedule_from times.now k }
@@ -83,64 +76,45 @@ pub fn schedule_of(times: &[u32; 88], k: u32) -> Schedule
 }
 
 // The code that it sends at this number in every state.
+#[tactic(auto, unfolding(states::specs::Moves::orbit_code))]
 fn orbit_code_of(times: &[u32; 88], k: u32, number: u32) -> u8
     ensures { result ≡ orbit_code (schedule_from times.now k) number }
 {
     let a = 11 * (k % 8) as usize;
     if number == times[a] {
-        return 1;
+        1
+    } else if number == times[a + 8] {
+        11
+    } else {
+        0
     }
-    if number == times[a + 8] { 11 } else { 0 }
 }
 
 impl Scene {
     fn rule_in(self, state: u8) -> u8
         ensures { result ≡ rule_in self state }
     {
-        if state == 8 { self.low } else { self.norm }
+        if state == WARN { self.low } else { self.norm }
     }
 }
 
 fn code_of(step: u8, orbit: u8, cycle: u8) -> u8
     ensures { result ≡ code_of step orbit cycle }
 {
-    if 0 < step {
-        return step;
+    match (step, orbit) {
+        (0, 0) => cycle,
+        (0, _) => orbit,
+        _ => step,
     }
-    if 0 < orbit { orbit } else { cycle }
 }
 
-fn events_before(step: u8, events: u64) -> u64
-    ensures { result ≡ if (eqb step 7) 0 events }
-{
-    if step == 7 { 0 } else { events }
-}
-
+// Code 7 sets them to 0; then both kinds of trigger count.
 fn events_of(step: u8, events: u64, sent: bool, cal: bool) -> u64
     requires { events < 2 ^ 41 }
     ensures { result ≡ events_of step events sent cal }
 {
-    let before = events_before(step, events);
-    before + plain::one(either(sent, cal))
-}
-
-fn either(a: bool, b: bool) -> bool
-    ensures { result ≡ (a || b) }
-{
-    a || b
-}
-
-fn is_sent(fate: u8) -> bool
-    ensures { result ≡ eqb fate 0 }
-{
-    fate == counts::SENT
-}
-
-// A cycle ends with the crossing in which it asks for its trigger.
-fn ended(asks: bool, cycle: u8) -> u8
-    ensures { result ≡ if asks 0 cycle }
-{
-    if asks { cycle::NONE } else { cycle }
+    let before = if step == 7 { 0 } else { events };
+    before + u64::from(sent || cal)
 }
 
 impl Ptc {
@@ -148,18 +122,12 @@ impl Ptc {
     pub fn fresh() -> Ptc
         ensures { result ≡ fresh_ptc }
     {
-        let counts = Counts::none();
-        Ptc {
-            state: 0,
-            wait: 0,
-            cycle: 0,
-            counts: counts,
-            events: 0,
-        }
+        Ptc::default()
     }
 
     // Steps 3 and 4 of a crossing. Most controllers are at rest, and then there is little to do.
     // The schedules are lent: a controller at rest looks at two numbers of its own.
+    #[tactic(auto, using(crate::proofs::Rest::rest_crossed))]
     pub fn crossed(
         self,
         times: &[u32; 88],
@@ -178,15 +146,11 @@ impl Ptc {
             return self.rested(gap, code, scene, k, asked);
         }
         let at = schedule_of(times, k);
-        let plan = Plan {
-            at: at,
-            waits: waits,
-            gap: gap,
-        };
-        self.moved(plan, scene, k, class, asked)
+        self.moved(Plan { at, waits, gap }, scene, k, class, asked)
     }
 
     // The move, then the cycle and the trigger by the state after it.
+    #[tactic(auto, unfolding(crate::specs::Crossing::crossed_of))]
     fn moved(self, plan: Plan, scene: Scene, k: u32, class: u8, asked: bool) -> Crossed
         requires { Room self }
         ensures { result ≡ crossed_of plan scene k class asked self }
@@ -201,124 +165,83 @@ impl Ptc {
         let rule = scene.rule_in(step.state);
         let free = rule == 0;
         let fate = counts::fate(plan.gap, number, step.state, own, cycle == OPEN, rule);
-        let sent = plain::both(asked, is_sent(fate));
-        let cal = plain::both(asks, free);
-        let counts = self.counts.counted(asked, fate, asks, free);
+        let sent = asked && fate == counts::SENT;
+        let cal = asks && free;
         let ptc = Ptc {
             state: step.state,
             wait: step.wait,
-            cycle: ended(asks, cycle),
-            counts: counts,
+            // A cycle ends with the crossing in which it asks for its trigger.
+            cycle: if asks { NONE } else { cycle },
+            counts: self.counts.counted(asked, fate, asks, free),
             events: events_of(step.code, self.events, sent, cal),
         };
         let orbit = states::orbit_code(at, number);
+        let code = code_of(step.code, orbit, cycle_code(at, number, before, cycle));
         Crossed {
-            ptc: ptc,
-            code: code_of(step.code, orbit, cycle_code(at, number, before, cycle)),
-            sent: sent,
-            cal: cal,
+            ptc,
+            code,
+            sent,
+            cal,
         }
     }
 
     // Whether a crossing leaves the controller where it is: no wait, no cycle, and a state that stays.
-    pub fn is_at_rest(self, class: u8) -> bool
-        ensures { result ≡ at_rest class self }
+    #[tactic(auto, unfolding(crate::specs::Support::Rest::at_rest))]
+    pub fn is_at_rest(&self, class: u8) -> bool
+        ensures { result ≡ at_rest class self.now }
     {
-        if self.wait != 0 {
-            return false;
-        }
-        if self.cycle != 0 {
-            return false;
-        }
-        states::rests(class, self.state)
+        self.wait == 0 && self.cycle == NONE && states::rests(class, self.state)
     }
 
     // A crossing of a controller at rest: only a request changes it.
+    #[tactic(auto, unfolding(crate::specs::Support::Rest::rested_of))]
     fn rested(self, gap: Gap, code: u8, scene: Scene, k: u32, asked: bool) -> Crossed
         requires { Room self }
         ensures { result ≡ rested_of gap code scene k asked self }
     {
-        let number = scene.number;
         let rule = scene.rule_in(self.state);
-        let fate = counts::fate(gap, number, self.state, k == scene.holder, false, rule);
-        let sent = plain::both(asked, is_sent(fate));
-        let counts = self.counts.with_request(asked, fate);
+        let own = k == scene.holder;
+        let fate = counts::fate(gap, scene.number, self.state, own, false, rule);
+        let sent = asked && fate == counts::SENT;
         let ptc = Ptc {
-            state: self.state,
-            wait: self.wait,
-            cycle: self.cycle,
-            counts: counts,
-            events: self.events + plain::one(sent),
+            counts: self.counts.with_request(asked, fate),
+            events: self.events + u64::from(sent),
+            ..self
         };
         Crossed {
-            ptc: ptc,
-            code: code,
-            sent: sent,
+            ptc,
+            code,
+            sent,
             cal: false,
         }
     }
 
-    // CALIBRATE arms a cycle.
-    fn armed(self) -> Ptc
-        ensures { result ≡ armed_ptc self }
+    // The other commands than CALIBRATE lead to a state, set its wait and drop the cycle; START begins the run counts anew.
+    fn lead(&mut self, waits: Waits, command: u8)
+        ensures { self.new ≡ led_ptc waits command self.old }
     {
-        let counts = self.counts;
-        Ptc {
-            state: self.state,
-            wait: self.wait,
-            cycle: cycle::ARMED,
-            counts: counts,
-            events: self.events,
+        self.state = states::state_after(command, self.state);
+        self.wait = states::entry_wait(waits, self.state);
+        self.cycle = NONE;
+        if command == START {
+            self.counts = Counts::none();
         }
     }
 
-    // START begins the run counts anew.
-    fn counts_after(self, command: u8) -> Counts
-        ensures { result ≡ if (eqb command 1) no_counts self.counts }
+    // Whether the command is taken; one that is not changes nothing. CALIBRATE arms a cycle.
+    #[tactic(auto, unfolding(crate::specs::Command::commanded_of))]
+    pub fn command(&mut self, waits: Waits, command: u8) -> bool
+        ensures ptc { self.new ≡ (commanded_of waits command self.old).ptc }
+        ensures taken { result ≡ (commanded_of waits command self.old).taken }
     {
-        if command == 1 {
-            return Counts::none();
+        if !states::takes(command, self.state, self.cycle != NONE) {
+            return false;
         }
-        self.counts
-    }
-
-    // The other commands lead to a state, set its wait and drop the cycle.
-    fn led(self, waits: Waits, command: u8) -> Ptc
-        ensures { result ≡ led_ptc waits command self }
-    {
-        let state = states::state_after(command, self.state);
-        let counts = self.counts_after(command);
-        Ptc {
-            state: state,
-            wait: states::entry_wait(waits, state),
-            cycle: cycle::NONE,
-            counts: counts,
-            events: self.events,
+        if command == CALIBRATE {
+            self.cycle = ARMED;
+        } else {
+            self.lead(waits, command);
         }
-    }
-
-    // A command that is not taken changes nothing.
-    pub fn command(self, waits: Waits, command: u8) -> Commanded
-        ensures { result ≡ commanded_of waits command self }
-    {
-        let busy = self.cycle != 0;
-        if !states::takes(command, self.state, busy) {
-            return Commanded {
-                ptc: self,
-                taken: false,
-            };
-        }
-        if command == 5 {
-            let ptc = self.armed();
-            return Commanded {
-                ptc: ptc,
-                taken: true,
-            };
-        }
-        let ptc = self.led(waits, command);
-        Commanded {
-            ptc: ptc,
-            taken: true,
-        }
+        true
     }
 }

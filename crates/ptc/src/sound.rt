@@ -3,37 +3,29 @@ ghost use Rattle.std.specs.Prelude.{◌≡◌, ◌<◌, ◌^◌};
 ghost use Rattle.ptc.specs.Sound.{sound_cycle, sound_ptc};
 
 use crate::Ptc;
+use crate::cycle::{ARMED, NONE, OPEN};
 use states::is_running;
 
 fn is_cycle_sound(own: bool, state: u8, cycle: u8) -> bool
     ensures { result ≡ sound_cycle own state cycle }
 {
-    if 2 < cycle {
-        return false;
+    match cycle {
+        NONE => true,
+        ARMED => is_running(state),
+        OPEN => own && is_running(state),
+        _ => false,
     }
-    if cycle == 0 {
-        return true;
-    }
-    if !is_running(state) {
-        return false;
-    }
-    if cycle == 2 { own } else { true }
 }
 
 impl Ptc {
-    pub fn is_sound(self, k: u32, own: bool, m: u64) -> bool
+    #[tactic(auto, unfolding(crate::specs::Sound::sound_ptc))]
+    pub fn is_sound(&self, k: u32, own: bool, m: u64) -> bool
         requires { m < 2 ^ 60 }
-        ensures { result ≡ sound_ptc k own m self }
+        ensures { result ≡ sound_ptc k own m self.now }
     {
-        if !states::is_sound(k, self.state, self.wait) {
-            return false;
-        }
-        if !is_cycle_sound(own, self.state, self.cycle) {
-            return false;
-        }
-        if !self.counts.is_sound(m) {
-            return false;
-        }
-        self.events <= m
+        states::is_sound(k, self.state, self.wait)
+            && is_cycle_sound(own, self.state, self.cycle)
+            && self.counts.is_sound(m)
+            && self.events <= m
     }
 }

@@ -3,165 +3,166 @@
 
 ghost use Rattle.ptc.specs.Support.Room.{Room};
 
-use cases::{end_line, say, say_number};
-use counts::Counts;
 use kit::Kit;
 use ptc::{Ptc, Scene};
 use settings::Settings;
-use std::io;
 use std::io::Write;
+use std::{fmt, io};
+
+// A state, its wait and the number of a crossing in which a code may be sent.
+const CODES: [(u8, u32, u32); 9] = [
+    (1, 0, 100),
+    (3, 0, 400),
+    (4, 0, 500),
+    (5, 0, 300),
+    (13, 0, 200),
+    (16, 0, 100),
+    (19, 0, 600),
+    (7, 0, 0),
+    (7, 0, 3444),
+];
+
+// The same of crossings in which a wait goes on or ends.
+const WAITS: [(u8, u32, u32); 7] = [
+    (2, 2, 0),
+    (2, 1, 0),
+    (2, 1, 50),
+    (12, 1, 0),
+    (14, 1, 0),
+    (15, 1, 0),
+    (17, 1, 0),
+];
+
+// Where a controller is: its state, and its wait and its cycle where it has them.
+#[derive(Drop)]
+struct Place(Ptc);
+
+impl fmt::Display for Place {
+    fn fmt<W: fmt::Write>(&self, f: &mut fmt::Formatter<W>) -> fmt::Result {
+        let Ptc {
+            state,
+            wait,
+            cycle,
+            ..
+        } = self.0;
+        write!(f, "{state}")?;
+        if wait != 0 {
+            write!(f, "w{wait}")?;
+        }
+        if cycle != 0 {
+            write!(f, "c{cycle}")?;
+        }
+        Ok(())
+    }
+}
 
 fn in_state(state: u8, wait: u32, cycle: u8) -> Ptc
     ensures { Room result }
 {
-    let counts = Counts::none();
     Ptc {
         state,
         wait,
         cycle,
-        counts,
-        events: 0,
+        ..Ptc::fresh()
     }
 }
 
-// The state after one crossing, and the code sent in it where there was one.
+// Where a controller is after one crossing, and the code sent in it where there was one.
 fn say_crossing<W: Write>(
     out: &mut W,
+    kit: &Kit,
     k: u32,
-    state: u8,
-    wait: u32,
+    from: Ptc,
     number: u32,
     class: u8,
-) -> io::Result<()> {
+) -> io::Result<()>
+    requires { Room from }
+{
     let scene = Scene {
         number,
         holder: 8,
         norm: 0,
         low: 0,
     };
-    let kit = Kit::of(Settings::standard());
-    let p = in_state(state, wait, 0);
-    let r = p.crossed(&kit.times, kit.waits, kit.gap, scene, k, class, false);
-    say_number(out, b"", r.ptc.state as u64)?;
-    if 0 < r.ptc.wait {
-        say_number(out, b"w", r.ptc.wait as u64)?;
-    }
-    if 0 < r.code {
-        say_number(out, b" sends ", r.code as u64)?;
+    let crossed = from.crossed(&kit.times, kit.waits, kit.gap, scene, k, class, false);
+    let place = Place(crossed.ptc);
+    let code = crossed.code;
+    write!(out, " {place}")?;
+    if code != 0 {
+        write!(out, " sends {code}")?;
     }
     Ok(())
 }
 
-// A state with each merged class, from none to disconnected, at a number that is no code's.
-fn say_moves<W: Write>(out: &mut W, k: u32, state: u8) -> io::Result<()> {
-    say_number(out, b"", state as u64)?;
-    say(out, b":")?;
-    for class in 0..8 {
-        say(out, b" ")?;
-        say_crossing(out, k, state, 0, 50, class)?;
-    }
-    end_line(out)
-}
-
-fn say_all_moves<W: Write>(out: &mut W, k: u32) -> io::Result<()> {
+// Every state with each merged class, from none to disconnected, at a number that is no code's.
+fn say_moves<W: Write>(out: &mut W, kit: &Kit, k: u32) -> io::Result<()> {
     for state in 0..20 {
-        say_moves(out, k, state)?;
+        write!(out, "{state}:")?;
+        for class in 0..8 {
+            say_crossing(out, kit, k, in_state(state, 0, 0), 50, class)?;
+        }
+        writeln!(out)?;
     }
     Ok(())
 }
 
-// A state at a number, with merged class ready.
-fn say_at<W: Write>(out: &mut W, state: u8, wait: u32, number: u32) -> io::Result<()> {
-    say_number(out, b"", state as u64)?;
-    say_number(out, b" at ", number as u64)?;
-    say(out, b": ")?;
-    say_crossing(out, 0, state, wait, number, 1)?;
-    end_line(out)
-}
-
-fn say_codes<W: Write>(out: &mut W) -> io::Result<()> {
-    say_at(out, 1, 0, 100)?;
-    say_at(out, 3, 0, 400)?;
-    say_at(out, 4, 0, 500)?;
-    say_at(out, 5, 0, 300)?;
-    say_at(out, 13, 0, 200)?;
-    say_at(out, 16, 0, 100)?;
-    say_at(out, 19, 0, 600)?;
-    say_at(out, 7, 0, 0)?;
-    say_at(out, 7, 0, 3444)
-}
-
-fn say_waits<W: Write>(out: &mut W) -> io::Result<()> {
-    say_at(out, 2, 2, 0)?;
-    say_at(out, 2, 1, 0)?;
-    say_at(out, 2, 1, 50)?;
-    say_at(out, 12, 1, 0)?;
-    say_at(out, 14, 1, 0)?;
-    say_at(out, 15, 1, 0)?;
-    say_at(out, 17, 1, 0)
-}
-
-// The state, wait and cycle after a command, or a dash where it is not taken.
-fn say_command<W: Write>(out: &mut W, state: u8, cycle: u8, command: u8) -> io::Result<()> {
-    let r = in_state(state, 0, cycle).command(Settings::standard().waits(), command);
-    if !r.taken {
-        return say(out, b" -");
-    }
-    say_number(out, b" ", r.ptc.state as u64)?;
-    if 0 < r.ptc.wait {
-        say_number(out, b"w", r.ptc.wait as u64)?;
-    }
-    if 0 < r.ptc.cycle {
-        say_number(out, b"c", r.ptc.cycle as u64)?;
+// States, with a wait, at a number, with merged class ready.
+fn say_steps<W: Write>(out: &mut W, kit: &Kit, steps: &[(u8, u32, u32)]) -> io::Result<()> {
+    for &(state, wait, number) in steps {
+        write!(out, "{state} at {number}:")?;
+        say_crossing(out, kit, 0, in_state(state, wait, 0), number, 1)?;
+        writeln!(out)?;
     }
     Ok(())
 }
 
-// A state with each command, 0 and 7 among them, which are none.
-fn say_commands<W: Write>(out: &mut W, state: u8, cycle: u8) -> io::Result<()> {
-    say_number(out, b"", state as u64)?;
-    say(out, b":")?;
-    for command in 0..8 {
-        say_command(out, state, cycle, command)?;
-    }
-    end_line(out)
-}
-
-fn say_all_commands<W: Write>(out: &mut W, cycle: u8) -> io::Result<()> {
+// Every state with each command, 0 and 7 among them, which are none: a dash where it is not taken.
+fn say_commands<W: Write>(out: &mut W, kit: &Kit, cycle: u8) -> io::Result<()> {
     for state in 0..20 {
-        say_commands(out, state, cycle)?;
+        write!(out, "{state}:")?;
+        for command in 0..8 {
+            let mut ptc = in_state(state, 0, cycle);
+            if ptc.command(kit.waits, command) {
+                let place = Place(ptc);
+                write!(out, " {place}")?;
+            } else {
+                write!(out, " -")?;
+            }
+        }
+        writeln!(out)?;
     }
     Ok(())
 }
 
 fn say_statuses<W: Write>(out: &mut W) -> io::Result<()> {
     for state in 0..20 {
-        say_number(out, b" ", states::status(state) as u64)?;
+        let status = states::status(state);
+        write!(out, " {status}")?;
     }
-    end_line(out)
+    writeln!(out)
 }
 
 fn main(rt: HostRuntime) -> io::Result<()> {
-    let mut out = io::writer(&rt);
-    let out = &mut out;
-    say(
+    let out = &mut io::writer(&rt);
+    let kit = Kit::of(Settings::standard());
+    writeln!(
         out,
-        b"controller 0, by class none ready warning busy out-of-sync error bad disconnected\n",
+        "controller 0, by class none ready warning busy out-of-sync error bad disconnected"
     )?;
-    say_all_moves(out, 0)?;
-    say(out, b"controller 1\n")?;
-    say_all_moves(out, 1)?;
-    say(out, b"codes\n")?;
-    say_codes(out)?;
-    say(out, b"waits\n")?;
-    say_waits(out)?;
-    say(
+    say_moves(out, &kit, 0)?;
+    writeln!(out, "controller 1")?;
+    say_moves(out, &kit, 1)?;
+    writeln!(out, "codes")?;
+    say_steps(out, &kit, &CODES)?;
+    writeln!(out, "waits")?;
+    say_steps(out, &kit, &WAITS)?;
+    writeln!(
         out,
-        b"no cycle, by command 0 START STOP HARD RESYNC CALIBRATE PANIC 7\n",
+        "no cycle, by command 0 START STOP HARD RESYNC CALIBRATE PANIC 7"
     )?;
-    say_all_commands(out, 0)?;
-    say(out, b"armed\n")?;
-    say_all_commands(out, 1)?;
-    say(out, b"statuses\n")?;
+    say_commands(out, &kit, 0)?;
+    writeln!(out, "armed")?;
+    say_commands(out, &kit, 1)?;
+    writeln!(out, "statuses")?;
     say_statuses(out)
 }

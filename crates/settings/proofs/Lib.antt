@@ -1,3 +1,4 @@
+pub mod Found
 mod Stamps
 mod Ranges
 pub mod Passed

@@ -18,9 +18,8 @@ use Rattle.text.specs.Lines.{ranges_of, within, first_out}
 use Rattle.keys.specs.Settings.{value_lines}
 use Rattle.keys.specs.Support.Lines.{nowhere}
 use Rattle.settings.specs.declared.Settings.{Settings}
-use Rattle.settings.specs.declared.relations.Fault.{Fault}
 use Rattle.settings.specs.Names.{after, orbit_of, gap_of, rules_of, times_at, schedule_of, times_of}
-use Rattle.settings.specs.Relations.{below, distinct, gap_inside, cycle_in_order, lows_fit, fault, held, each, relation}
+use Rattle.settings.specs.Relations.{Fault, below, distinct, gap_inside, cycle_in_order, lows_fit, fault, held, each, relation}
 use Rattle.settings.specs.Check.{out_of_range}
 use Rattle.settings.specs.Lows.{cleared, lows, lows_cleared}
 use Rattle.settings.proofs.Passed.{Passed}

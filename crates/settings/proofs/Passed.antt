@@ -13,9 +13,8 @@ use Rattle.laws.proofs.First.{first_holds, first_most}
 use Rattle.answer.specs.Told.{Told, DONE, RANGE, RELATION, unless, succeeded}
 use Rattle.answer.proofs.Told.{not_done}
 use Rattle.settings.specs.declared.Settings.{Settings}
-use Rattle.settings.specs.declared.relations.Fault.{Fault}
 use Rattle.settings.specs.Names.{orbit_of, gap_of, rules_of, schedule_of, times_of}
-use Rattle.settings.specs.Relations.{below, distinct, gap_inside, cycle_in_order, lows_fit, held, each, relation, related}
+use Rattle.settings.specs.Relations.{Fault, below, distinct, gap_inside, cycle_in_order, lows_fit, held, each, relation, related}
 use Rattle.settings.specs.Check.{out_of_range, checked}
 
 pub record Passed (s : Settings) : Type 0 where

@@ -15,8 +15,7 @@ use Rattle.text.proofs.Walk.{out_here, out_later, out_none}
 use Rattle.keys.specs.Settings.{opening, value_lines}
 use Rattle.keys.specs.Support.Lines.{lines, nowhere, range_at}
 use Rattle.settings.specs.declared.Settings.{Settings}
-use Rattle.settings.specs.declared.relations.Fault.{Fault}
-use Rattle.settings.specs.Relations.{relation, related}
+use Rattle.settings.specs.Relations.{Fault, relation, related}
 use Rattle.settings.specs.Check.{out_of_range, checked}
 
 pub ranged : length (ranges_of value_lines) ≡ 147

@@ -38,24 +38,28 @@ waits_of s = record {
 abbrev pub slot_of : Settings → ℕ → ℕ
 slot_of s k = after s (19 + k)
 
+-- eleven numbers, one after the other from a place on
+abbrev pub schedule_at : List ℕ → ℕ → Schedule
+schedule_at numbers at = record {
+  bc0 = get_or numbers at 0;
+  te = get_or numbers (at + 1) 0;
+  resync = get_or numbers (at + 2) 0;
+  hard = get_or numbers (at + 3) 0;
+  ec0 = get_or numbers (at + 4) 0;
+  oc0 = get_or numbers (at + 5) 0;
+  start = get_or numbers (at + 6) 0;
+  stop = get_or numbers (at + 7) 0;
+  gap = get_or numbers (at + 8) 0;
+  wte = get_or numbers (at + 9) 0;
+  cal = get_or numbers (at + 10) 0;
+}
+
 -- document 02, P2: controller k's schedule. k is below 8; only so that it means something for any number it counts modulo 8
 abbrev pub times_at : ℕ → ℕ
 times_at k = 27 + 11 * (k % 8)
 
 abbrev pub schedule_of : Settings → ℕ → Schedule
-schedule_of s k = record {
-  bc0 = after s (times_at k);
-  te = after s (times_at k + 1);
-  resync = after s (times_at k + 2);
-  hard = after s (times_at k + 3);
-  ec0 = after s (times_at k + 4);
-  oc0 = after s (times_at k + 5);
-  start = after s (times_at k + 6);
-  stop = after s (times_at k + 7);
-  gap = after s (times_at k + 8);
-  wte = after s (times_at k + 9);
-  cal = after s (times_at k + 10);
-}
+schedule_of s k = schedule_at s.values (times_at k)
 
 -- its eleven numbers, as a list
 abbrev pub times_of : Settings → ℕ → List ℕ

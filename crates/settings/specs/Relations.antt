@@ -7,7 +7,6 @@ use Rattle.settings.specs.declared.names.Gap.{Gap}
 use Rattle.settings.specs.declared.names.Rule.{Rule}
 use Rattle.settings.specs.declared.names.Rules.{Rules}
 use Rattle.settings.specs.declared.names.Schedule.{Schedule}
-use Rattle.settings.specs.declared.relations.Fault.{Fault}
 use Rattle.settings.specs.Names.{orbit_of, gap_of, rules_of, schedule_of, times_of}
 
 abbrev pub below : ℕ → List ℕ → Bool
@@ -36,6 +35,10 @@ abbrev pub lows_fit : Rules → Bool
 lows_fit r = low_fits r.second && (low_fits r.third && low_fits r.fourth)
 
 -- what fails first: the relation and the controller
+pub record Fault : Type 0 where
+  pub relation : ℕ
+  pub controller : ℕ
+
 abbrev pub fault : (relation controller : ℕ) → Fault
 fault relation controller = record { relation = relation; controller = controller }
 

@@ -1,2 +1,3 @@
 -- What the code goes by and no reader of document 01 has to believe: the laws in proofs/ tie it to the definitions beside this folder.
 pub mod Stamps
+pub mod Found

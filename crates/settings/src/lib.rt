@@ -9,13 +9,13 @@ ghost use Rattle.std.specs.Prelude.{◌≡◌};
 ghost use Rattle.answer.specs.Told.{told};
 ghost use Rattle.settings.specs.Check.{out_of_range, checked};
 ghost use Rattle.settings.specs.Standard.{standard};
+ghost use Rattle.settings.specs.Support.Found.{line_found};
 
-use answer::Answer;
+use answer::{Answer, Refusal};
 pub use names::{Gap, Ignores, Pause, Rule, Rules, Schedule, Waits};
-pub use relations::Fault;
 
 // The values in the order of the newest edition's lines. Only `names` knows which is which.
-#[derive(Clone, Copy)]
+#[derive(Clone, Copy, Debug, PartialEq, Eq)]
 pub struct Settings {
     pub values: [u32; 147],
 }
@@ -29,32 +29,25 @@ impl Settings {
         }
     }
 
-    // The number of the first line whose value is out of its range, or 0. The edition has line 1.
-    fn first_out(self) -> usize
-        ensures { result ≡ out_of_range self }
+    // The first line whose value is out of its range. The edition has line 1.
+    fn first_out(&self) -> Option<usize>
+        ensures { result ≡ line_found (out_of_range self.now) }
     {
-        let v = self.values;
-        let lows = keys::low_values();
-        let highs = keys::high_values();
-        let mut n = 0;
-        while n < 147 {
-            let x = v[n];
-            if !keys::range(&lows, &highs, n + 1).holds(x) {
-                return n + 2;
+        for (n, value) in self.values.iter().enumerate() {
+            if !keys::range(n + 1).holds(*value) {
+                return Some(n + 2);
             }
-            n += 1;
         }
-        0
+        None
     }
 
     // RANGE by line order, then RELATION.
-    pub fn check(self) -> Answer
-        ensures { told result ≡ checked self }
+    pub fn check(&self) -> Answer
+        ensures { told result ≡ checked self.now }
     {
-        let n = self.first_out();
-        if 0 < n {
-            return Answer::Range(n);
+        if let Some(line) = self.first_out() {
+            return Err(Refusal::Range(line));
         }
-        self.first_relation().told()
+        self.test_relations()
     }
 }

@@ -1,17 +1,19 @@
 // The settings by name: with `specs/Names.antt`, the only place that says which value is which.
-ghost use Rattle.std.specs.Prelude.{◌≡◌, ◌<◌};
-ghost use Rattle.settings.specs.Names.{orbit_of, gap_of, rules_of, ignores_of, waits_of, slot_of, schedule_of, part_of};
+ghost use Rattle.std.specs.Prelude.{◌≡◌, ◌+◌, ◌<◌, ◌≤◌, length};
+ghost use Rattle.settings.specs.Names.{orbit_of, gap_of, rule_after, rules_of, ignores_of, waits_of, slot_of, schedule_at, schedule_of, part_of};
 ghost use Rattle.settings.specs.Lows.{lows_cleared};
 
+use crate::Settings;
+
 // The crossings from `low` to `high` are closed to requests.
-#[derive(Clone, Copy)]
+#[derive(Clone, Copy, Debug, PartialEq, Eq)]
 pub struct Gap {
     pub low: u32,
     pub high: u32,
 }
 
 // At most `norm` triggers in a period of crossings, or `low` under warning.
-#[derive(Clone, Copy)]
+#[derive(Clone, Copy, Debug, PartialEq, Eq)]
 pub struct Rule {
     pub period: u32,
     pub norm: u32,
@@ -19,7 +21,7 @@ pub struct Rule {
 }
 
 // Rule 1 is the crossings left free after a trigger.
-#[derive(Clone, Copy)]
+#[derive(Clone, Copy, Debug, PartialEq, Eq)]
 pub struct Rules {
     pub spacing: u32,
     pub second: Rule,
@@ -28,28 +30,28 @@ pub struct Rules {
 }
 
 // Which members the merge leaves out.
-#[derive(Clone, Copy)]
+#[derive(Clone, Copy, Debug, PartialEq, Eq)]
 pub struct Ignores {
     pub disc: bool,
     pub bad: bool,
 }
 
 // Orbits to wait around a resynchronisation and around a hard reset.
-#[derive(Clone, Copy)]
+#[derive(Clone, Copy, Debug, PartialEq, Eq)]
 pub struct Pause {
     pub resync: u32,
     pub hard: u32,
 }
 
 // Orbits to wait before and after the signal.
-#[derive(Clone, Copy)]
+#[derive(Clone, Copy, Debug, PartialEq, Eq)]
 pub struct Waits {
     pub settle: Pause,
     pub recover: Pause,
 }
 
 // The crossing numbers at which the codes of these names are sent.
-#[derive(Clone, Copy)]
+#[derive(Clone, Copy, Debug, PartialEq, Eq)]
 pub struct Schedule {
     pub bc0: u32,
     pub te: u32,
@@ -64,122 +66,120 @@ pub struct Schedule {
     pub cal: u32,
 }
 
-impl crate::Settings {
-    pub fn orbit(self) -> u32
-        ensures { result ≡ orbit_of self }
+impl Schedule {
+    // Eleven numbers, one after the other from a place on.
+    pub fn read(numbers: &[u32], at: usize) -> Schedule
+        requires { at + 11 ≤ length numbers.now }
+        ensures { result ≡ schedule_at numbers.now at }
+    {
+        Schedule {
+            bc0: numbers[at],
+            te: numbers[at + 1],
+            resync: numbers[at + 2],
+            hard: numbers[at + 3],
+            ec0: numbers[at + 4],
+            oc0: numbers[at + 5],
+            start: numbers[at + 6],
+            stop: numbers[at + 7],
+            gap: numbers[at + 8],
+            wte: numbers[at + 9],
+            cal: numbers[at + 10],
+        }
+    }
+}
+
+impl Settings {
+    pub fn orbit(&self) -> u32
+        ensures { result ≡ orbit_of self.now }
     {
         self.values[0]
     }
 
-    pub fn gap(self) -> Gap
-        ensures { result ≡ gap_of self }
+    pub fn gap(&self) -> Gap
+        ensures { result ≡ gap_of self.now }
     {
-        let v = self.values;
         Gap {
-            low: v[1],
-            high: v[2],
+            low: self.values[1],
+            high: self.values[2],
         }
     }
 
-    pub fn rules(self) -> Rules
-        ensures { result ≡ rules_of self }
+    // The rule whose three values begin at a place.
+    fn rule(&self, at: usize) -> Rule
+        requires { at + 3 ≤ 147 }
+        ensures { result ≡ rule_after self.now at }
     {
-        let v = self.values;
-        let second = Rule {
-            period: v[4],
-            norm: v[5],
-            low: v[6],
-        };
-        let third = Rule {
-            period: v[7],
-            norm: v[8],
-            low: v[9],
-        };
-        let fourth = Rule {
-            period: v[10],
-            norm: v[11],
-            low: v[12],
-        };
+        Rule {
+            period: self.values[at],
+            norm: self.values[at + 1],
+            low: self.values[at + 2],
+        }
+    }
+
+    pub fn rules(&self) -> Rules
+        ensures { result ≡ rules_of self.now }
+    {
         Rules {
-            spacing: v[3],
-            second: second,
-            third: third,
-            fourth: fourth,
+            spacing: self.values[3],
+            second: self.rule(4),
+            third: self.rule(7),
+            fourth: self.rule(10),
         }
     }
 
     // The three low limits set to 0: no trigger is sent under warning.
-    pub fn lows_cleared(self) -> crate::Settings
+    pub fn lows_cleared(mut self) -> Settings
         ensures { result ≡ lows_cleared self }
     {
-        let mut v = self.values;
-        v[6] = 0;
-        v[9] = 0;
-        v[12] = 0;
-        crate::Settings { values: v }
+        self.values[6] = 0;
+        self.values[9] = 0;
+        self.values[12] = 0;
+        self
     }
 
-    pub fn ignores(self) -> Ignores
-        ensures { result ≡ ignores_of self }
+    pub fn ignores(&self) -> Ignores
+        ensures { result ≡ ignores_of self.now }
     {
-        let v = self.values;
         Ignores {
-            disc: v[13] == 1,
-            bad: v[14] == 1,
+            disc: self.values[13] == 1,
+            bad: self.values[14] == 1,
         }
     }
 
-    pub fn waits(self) -> Waits
-        ensures { result ≡ waits_of self }
+    pub fn waits(&self) -> Waits
+        ensures { result ≡ waits_of self.now }
     {
-        let v = self.values;
-        let settle = Pause {
-            resync: v[15],
-            hard: v[16],
-        };
-        let recover = Pause {
-            resync: v[17],
-            hard: v[18],
-        };
         Waits {
-            settle: settle,
-            recover: recover,
+            settle: Pause {
+                resync: self.values[15],
+                hard: self.values[16],
+            },
+            recover: Pause {
+                resync: self.values[17],
+                hard: self.values[18],
+            },
         }
     }
 
     // Controller k's share of the orbits, in tens.
-    pub fn slot(self, k: usize) -> u32
+    pub fn slot(&self, k: usize) -> u32
         requires { k < 8 }
-        ensures { result ≡ slot_of self k }
+        ensures { result ≡ slot_of self.now k }
     {
         self.values[19 + k]
     }
 
     // Controller k's eleven numbers, one after the other.
-    pub fn schedule(self, k: usize) -> Schedule
-        ensures { result ≡ schedule_of self k }
+    pub fn schedule(&self, k: usize) -> Schedule
+        ensures { result ≡ schedule_of self.now k }
     {
-        let v = self.values;
-        let a = 27 + 11 * (k % 8);
-        Schedule {
-            bc0: v[a],
-            te: v[a + 1],
-            resync: v[a + 2],
-            hard: v[a + 3],
-            ec0: v[a + 4],
-            oc0: v[a + 5],
-            start: v[a + 6],
-            stop: v[a + 7],
-            gap: v[a + 8],
-            wte: v[a + 9],
-            cal: v[a + 10],
-        }
+        Schedule::read(&self.values, 27 + 11 * (k % 8))
     }
 
     // The controller of partition p, or 8 for none.
-    pub fn part(self, p: usize) -> u32
+    pub fn part(&self, p: usize) -> u32
         requires { p < 32 }
-        ensures { result ≡ part_of self p }
+        ensures { result ≡ part_of self.now p }
     {
         self.values[115 + p]
     }

@@ -1,34 +1,21 @@
 // The five relations between the values (documents 01, "Settings text", and 02, P2).
-ghost use Rattle.std.specs.Prelude.{◌≡◌, true, ◌+◌, ltb, length};
-ghost use Rattle.laws.specs.Base.{if, first_not};
+ghost use Rattle.std.specs.Prelude.{◌≡◌, true, ◌+◌, ◌<◌, length};
+ghost use Rattle.laws.specs.Base.{first_not};
 ghost use Rattle.answer.specs.Told.{told};
 ghost use Rattle.settings.specs.Names.{orbit_of, schedule_of, times_of};
-ghost use Rattle.settings.specs.Relations.{below, distinct, gap_inside, cycle_in_order, low_fits, lows_fit, fault, held, relation, related};
+ghost use Rattle.settings.specs.Relations.{below, distinct, gap_inside, cycle_in_order, low_fits, lows_fit, relation, related};
 ghost use Rattle.settings.specs.Check.{out_of_range};
 ghost use Rattle.settings.specs.Support.Stamps.{places, Fits, Lower};
+ghost use Rattle.settings.specs.Support.Found.{place_found};
 
 use crate::Settings;
 use crate::names::{Gap, Rule, Rules, Schedule};
-use answer::Answer;
+use answer::{Answer, Refusal};
 
-// What fails first: the relation and the controller. Relation 0 is none.
-#[derive(Clone, Copy)]
-pub struct Fault {
-    pub relation: usize,
-    pub controller: usize,
-}
-
-fn all_below(xs: &[u32], m: u32) -> bool
+fn are_below(xs: &[u32], m: u32) -> bool
     ensures { result ≡ below m xs.now }
 {
-    let mut i = 0;
-    while i < xs.len() {
-        if m <= xs[i] {
-            return false;
-        }
-        i += 1;
-    }
-    true
+    xs.iter().all(|x| *x < m)
 }
 
 // Marks the numbers with the stamp, the last first, until one has it already. No number has it before.
@@ -36,9 +23,7 @@ fn stamp_all(seen: &mut [u8], times: &[u32], stamp: u8) -> bool
     requires { (length seen.old ≡ places) × Fits times.now × Lower stamp seen.old }
     ensures { (result ≡ distinct times.now) × (result ≡ true → Lower (stamp + 1) seen.new) }
 {
-    let mut i = times.len();
-    while 0 < i {
-        i -= 1;
+    for i in (0..times.len()).rev() {
         let x = times[i] as usize;
         if seen[x] == stamp {
             return false;
@@ -46,52 +31,6 @@ fn stamp_all(seen: &mut [u8], times: &[u32], stamp: u8) -> bool
         seen[x] = stamp;
     }
     true
-}
-
-fn no_fault() -> Fault
-    ensures { result ≡ fault 0 0 }
-{
-    Fault {
-        relation: 0,
-        controller: 0,
-    }
-}
-
-// The later answer where this relation holds.
-fn held(ok: bool, number: usize, later: Fault) -> Fault
-    ensures { result ≡ held ok number later }
-{
-    if ok {
-        return later;
-    }
-    Fault {
-        relation: number,
-        controller: 0,
-    }
-}
-
-// The later answer where no controller was found, which is 8.
-fn each(k: usize, number: usize, later: Fault) -> Fault
-    ensures { result ≡ if (ltb k 8) (fault number k) later }
-{
-    if k < 8 {
-        return Fault {
-            relation: number,
-            controller: k,
-        };
-    }
-    later
-}
-
-impl Fault {
-    pub fn told(self) -> Answer
-        ensures { told result ≡ related self }
-    {
-        if self.relation == 0 {
-            return Answer::Done;
-        }
-        Answer::Relation(self.relation, self.controller)
-    }
 }
 
 impl Rule {
@@ -129,62 +68,72 @@ impl Rules {
 }
 
 impl Settings {
-    // The first controller with a number that is not below the orbit, or 8.
-    fn first_late(self) -> usize
-        ensures { result ≡ first_not (λ k. below (orbit_of self) (times_of self k)) 8 0 }
+    // Controller k's eleven numbers, one after the other.
+    fn times(&self, k: usize) -> &[u32]
+        requires { k < 8 }
+        ensures { result.now ≡ times_of self.now k }
     {
-        let v = self.values;
-        let orbit = v[0];
-        let mut k = 0;
-        while k < 8 {
-            if !all_below(&v[27 + 11 * k..38 + 11 * k], orbit) {
-                return k;
-            }
-            k += 1;
-        }
-        8
+        &self.values[27 + 11 * k..38 + 11 * k]
     }
 
-    // The first with the same number twice, or 8. Each controller has a stamp of its own, so one table serves all eight.
-    fn first_doubled(self) -> usize
-        requires { out_of_range self ≡ 0 }
-        ensures { result ≡ first_not (λ k. distinct (times_of self k)) 8 0 }
+    // The first controller with a number that is not below the orbit.
+    fn first_late(&self) -> Option<usize>
+        ensures { result ≡ place_found (first_not (λ k. below (orbit_of self.now) (times_of self.now k)) 8 0) }
     {
-        let v = self.values;
+        for k in 0..8 {
+            if !are_below(self.times(k), self.orbit()) {
+                return Some(k);
+            }
+        }
+        None
+    }
+
+    // The first with the same number twice. Each controller has a stamp of its own, so one table serves all eight.
+    fn first_doubled(&self) -> Option<usize>
+        requires { out_of_range self.now ≡ 0 }
+        ensures { result ≡ place_found (first_not (λ k. distinct (times_of self.now k)) 8 0) }
+    {
         let mut seen = [0u8; 4096];
-        let mut k = 0;
-        while k < 8 {
-            if !stamp_all(&mut seen, &v[27 + 11 * k..38 + 11 * k], k as u8 + 1) {
-                return k;
+        for k in 0..8 {
+            if !stamp_all(&mut seen, self.times(k), k as u8 + 1) {
+                return Some(k);
             }
-            k += 1;
         }
-        8
+        None
     }
 
-    // The first whose cycle is out of order, or 8.
-    fn first_disordered(self) -> usize
-        ensures { result ≡ first_not (λ k. cycle_in_order (schedule_of self k)) 8 0 }
+    // The first whose cycle is out of order.
+    fn first_disordered(&self) -> Option<usize>
+        ensures { result ≡ place_found (first_not (λ k. cycle_in_order (schedule_of self.now k)) 8 0) }
     {
-        let mut k = 0;
-        while k < 8 {
+        for k in 0..8 {
             if !self.schedule(k).cycle_in_order() {
-                return k;
+                return Some(k);
             }
-            k += 1;
         }
-        8
+        None
     }
 
-    // The first relation that fails, and its first controller.
-    pub fn first_relation(self) -> Fault
-        requires { out_of_range self ≡ 0 }
-        ensures { result ≡ relation self }
+    // RELATION with the first relation that fails, and its first controller.
+    pub fn test_relations(&self) -> Answer
+        requires { out_of_range self.now ≡ 0 }
+        ensures { told result ≡ related (relation self.now) }
     {
-        let gap = self.gap().is_inside(self.orbit());
-        let limits = held(self.rules().lows_fit(), 5, no_fault());
-        let order = each(self.first_disordered(), 4, limits);
-        let apart = each(self.first_doubled(), 3, order);
-        held(gap, 1, each(self.first_late(), 2, apart))
+        if !self.gap().is_inside(self.orbit()) {
+            return Err(Refusal::Relation(1, 0));
+        }
+        if let Some(k) = self.first_late() {
+            return Err(Refusal::Relation(2, k));
+        }
+        if let Some(k) = self.first_doubled() {
+            return Err(Refusal::Relation(3, k));
+        }
+        if let Some(k) = self.first_disordered() {
+            return Err(Refusal::Relation(4, k));
+        }
+        if !self.rules().lows_fit() {
+            return Err(Refusal::Relation(5, 0));
+        }
+        Ok(())
     }
 }

@@ -10,24 +10,22 @@ use settings::Settings;
 use steady::Held;
 
 pub fn is_sound(
-    settings: Settings,
+    settings: &Settings,
     clock: Clock,
     turn: Turn,
-    ptcs: [Ptc; 8],
+    ptcs: &[Ptc; 8],
     held: Held,
     marks: &[u64; 32],
 ) -> bool
-    ensures { result ≡ sound_parts settings clock turn ptcs held marks.now }
+    ensures { result ≡ sound_parts settings.now clock turn ptcs.now held marks.now }
 {
-    let a = settings.check();
-    if !a.is_done() {
+    if settings.check().is_err() {
         return false;
     }
     if !clock.is_sound(records::LIFETIME, settings.orbit()) {
         return false;
     }
-    let slots = kit::slots_of(settings);
-    if !turn.is_sound(&slots) {
+    if !turn.is_sound(&kit::slots_of(*settings)) {
         return false;
     }
     if !eight::are_sound(ptcs, turn.holder, clock.crossings) {

@@ -1,75 +1,56 @@
 // The six commands: where each is taken, and where it leads.
-ghost use Rattle.std.specs.Prelude.{◌≡◌, false, ◌&&◌, leb};
-ghost use Rattle.laws.specs.Base.{if};
+ghost use Rattle.std.specs.Prelude.{◌≡◌};
 ghost use Rattle.states.specs.Names.{running};
-ghost use Rattle.states.specs.Commands.{takes_hard, takes_resync, takes, state_after};
+ghost use Rattle.states.specs.Commands.{takes, state_after};
+
+pub const START: u8 = 1;
+
+const STOP: u8 = 2;
+
+const HARD: u8 = 3;
+
+const RESYNC: u8 = 4;
+
+pub const CALIBRATE: u8 = 5;
+
+const PANIC: u8 = 6;
+
+const READY: u8 = 7;
+
+pub const WARN: u8 = 8;
 
 // Triggers are taken in READY and WARN.
 pub fn is_running(state: u8) -> bool
     ensures { result ≡ running state }
 {
-    state == 7 || state == 8
+    matches!(state, READY | WARN)
 }
 
-fn takes_stop(state: u8) -> bool
-    ensures { result ≡ (leb 1 state && leb state 18) }
-{
-    1 <= state && state <= 18
-}
-
-fn takes_hard(state: u8) -> bool
-    ensures { result ≡ takes_hard state }
-{
-    if state == 18 {
-        return true;
-    }
-    6 <= state && state <= 11
-}
-
-fn takes_resync(state: u8) -> bool
-    ensures { result ≡ takes_resync state }
-{
-    if state == 10 {
-        return true;
-    }
-    if state == 18 {
-        return true;
-    }
-    6 <= state && state <= 8
-}
-
-fn takes_calibrate(state: u8, cycle: bool) -> bool
-    ensures { result ≡ if cycle false (running state) }
-{
-    if cycle {
-        return false;
-    }
-    is_running(state)
-}
-
+#[tactic(auto, unfolding(crate::specs::Commands::takes))]
 pub fn takes(command: u8, state: u8, cycle: bool) -> bool
     ensures { result ≡ takes command state cycle }
 {
     match command {
-        1 => state == 0,
-        2 => takes_stop(state),
-        3 => takes_hard(state),
-        4 => takes_resync(state),
-        5 => takes_calibrate(state, cycle),
-        6 => true,
+        START => state == 0,
+        STOP => matches!(state, 1..=18),
+        HARD => matches!(state, 6..=11 | 18),
+        RESYNC => matches!(state, 6..=8 | 10 | 18),
+        CALIBRATE => !cycle && is_running(state),
+        PANIC => true,
         _ => false,
     }
 }
 
+#[tactic(auto, unfolding(crate::specs::Commands::state_after))]
 pub fn state_after(command: u8, state: u8) -> u8
     ensures { result ≡ state_after command state }
 {
     match command {
-        1 => 1,
-        2 => 19,
-        3 => 12,
-        4 => 15,
-        6 => 0,
+        START => 1,
+        STOP => 19,
+        HARD => 12,
+        RESYNC => 15,
+        PANIC => 0,
         _ => state,
     }
 }

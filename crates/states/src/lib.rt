@@ -8,7 +8,7 @@ mod sound;
 ghost use Rattle.std.specs.Prelude.{◌≡◌};
 ghost use Rattle.states.specs.Names.{status_of};
 
-pub use commands::{is_running, state_after, takes};
+pub use commands::{CALIBRATE, START, WARN, is_running, state_after, takes};
 pub use moves::{advance, entry_wait, orbit_code, rests};
 pub use sound::is_sound;
 
@@ -27,6 +27,7 @@ pub struct Moved {
 }
 
 // The status that a state shows.
+#[tactic(auto, unfolding(crate::specs::Names::status_of))]
 pub fn status(state: u8) -> u8
     ensures { result ≡ status_of state }
 {
@@ -36,8 +37,7 @@ pub fn status(state: u8) -> u8
         8 => 1,
         9 => 0,
         10 => 2,
-        11 => 12,
-        18 => 12,
+        11 | 18 => 12,
         _ => 4,
     }
 }

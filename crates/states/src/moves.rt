@@ -11,10 +11,7 @@ use status::{RANK_BAD, RANK_ERROR, RANK_OUT_OF_SYNC, RANK_READY, RANK_WARNING};
 fn to(state: u8) -> Step
     ensures { result ≡ goes state }
 {
-    Step {
-        state: state,
-        code: 0,
-    }
+    Step { state, code: 0 }
 }
 
 // At its number a state sends its code and is left.
@@ -22,12 +19,10 @@ fn at_number(number: u32, at: u32, from: u8, code: u8, next: u8) -> Step
     ensures { result ≡ timed number at from code next }
 {
     if number == at {
-        return Step {
-            state: next,
-            code: code,
-        };
+        Step { state: next, code }
+    } else {
+        to(from)
     }
-    to(from)
 }
 
 // Out of state 2.
@@ -35,28 +30,26 @@ fn after_resync(k: u32, class: u8) -> u8
     ensures { result ≡ after_resync k class }
 {
     if RANK_OUT_OF_SYNC <= class {
-        return 18;
+        18
+    } else if k == 0 {
+        3
+    } else {
+        4
     }
-    if k == 0 { 3 } else { 4 }
 }
 
 // Out of states 6, 7 and 8.
 fn while_running(class: u8) -> u8
     ensures { result ≡ while_running class }
 {
-    if RANK_BAD <= class {
-        return 9;
+    match class {
+        RANK_BAD.. => 9,
+        RANK_OUT_OF_SYNC => 10,
+        RANK_ERROR => 11,
+        RANK_READY => 7,
+        RANK_WARNING => 8,
+        _ => 6,
     }
-    if class == RANK_OUT_OF_SYNC {
-        return 10;
-    }
-    if class == RANK_ERROR {
-        return 11;
-    }
-    if class == RANK_READY {
-        return 7;
-    }
-    if class == RANK_WARNING { 8 } else { 6 }
 }
 
 // Out of state 9, always through 6.
@@ -67,22 +60,19 @@ fn while_disconnected(class: u8) -> u8
 }
 
 // Whether a state stays as it is, whatever the number, while the class is the same.
+#[tactic(auto, unfolding(crate::specs::Support::Rest::resting))]
 pub fn rests(class: u8, state: u8) -> bool
     ensures { result ≡ resting class state }
 {
     match state {
-        0 => true,
-        6 => while_running(class) == 6,
-        7 => while_running(class) == 7,
-        8 => while_running(class) == 8,
+        0 | 10 | 11 | 18 => true,
+        6..=8 => while_running(class) == state,
         9 => RANK_BAD <= class,
-        10 => true,
-        11 => true,
-        18 => true,
         _ => false,
     }
 }
 
+#[tactic(auto, unfolding(crate::specs::Moves::move_of))]
 fn next_step(at: Schedule, k: u32, number: u32, class: u8, state: u8) -> Step
     ensures { result ≡ move_of at k number class state }
 {
@@ -92,9 +82,7 @@ fn next_step(at: Schedule, k: u32, number: u32, class: u8, state: u8) -> Step
         3 => at_number(number, at.oc0, 3, 8, 4),
         4 => at_number(number, at.start, 4, 9, 5),
         5 => at_number(number, at.ec0, 5, 7, 6),
-        6 => to(while_running(class)),
-        7 => to(while_running(class)),
-        8 => to(while_running(class)),
+        6..=8 => to(while_running(class)),
         9 => to(while_disconnected(class)),
         12 => to(13),
         13 => at_number(number, at.hard, 13, 6, 14),
@@ -108,15 +96,15 @@ fn next_step(at: Schedule, k: u32, number: u32, class: u8, state: u8) -> Step
 }
 
 // The orbits that a state waits, set on entry.
+#[tactic(auto, unfolding(crate::specs::Moves::entry_wait))]
 pub fn entry_wait(waits: Waits, state: u8) -> u32
     ensures { result ≡ entry_wait waits state }
 {
     match state {
-        2 => waits.recover.resync,
+        2 | 17 => waits.recover.resync,
         12 => waits.settle.hard,
         14 => waits.recover.hard,
         15 => waits.settle.resync,
-        17 => waits.recover.resync,
         _ => 0,
     }
 }
@@ -125,13 +113,15 @@ pub fn entry_wait(waits: Waits, state: u8) -> u32
 fn fallen(number: u32, wait: u32) -> u32
     ensures { result ≡ if (eqb number 0) (wait - 1) wait }
 {
-    if number != 0 {
-        return wait;
+    if number == 0 {
+        wait.saturating_sub(1)
+    } else {
+        wait
     }
-    if 0 < wait { wait - 1 } else { 0 }
 }
 
 // A crossing either moves or lets the wait fall.
+#[tactic(auto, unfolding(crate::specs::Moves::moved_of))]
 pub fn advance(
     at: Schedule,
     waits: Waits,
@@ -144,26 +134,29 @@ pub fn advance(
     ensures { result ≡ moved_of at waits k number class state wait }
 {
     if wait == 0 {
-        let next = next_step(at, k, number, class, state);
-        return Moved {
-            state: next.state,
-            wait: entry_wait(waits, next.state),
-            code: next.code,
-        };
-    }
-    Moved {
-        state: state,
-        wait: fallen(number, wait),
-        code: 0,
+        let Step { state, code } = next_step(at, k, number, class, state);
+        let wait = entry_wait(waits, state);
+        Moved { state, wait, code }
+    } else {
+        let wait = fallen(number, wait);
+        Moved {
+            state,
+            wait,
+            code: 0,
+        }
     }
 }
 
 // Codes 1 and 11, which every state sends.
+#[tactic(auto, unfolding(crate::specs::Moves::orbit_code))]
 pub fn orbit_code(at: Schedule, number: u32) -> u8
     ensures { result ≡ orbit_code at number }
 {
     if number == at.bc0 {
-        return 1;
+        1
+    } else if number == at.gap {
+        11
+    } else {
+        0
     }
-    if number == at.gap { 11 } else { 0 }
 }

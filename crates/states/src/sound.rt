@@ -5,27 +5,16 @@ ghost use Rattle.states.specs.Sound.{waiting, sound_state};
 fn is_waiting(state: u8) -> bool
     ensures { result ≡ waiting state }
 {
-    match state {
-        2 => true,
-        12 => true,
-        14 => true,
-        15 => true,
-        17 => true,
-        _ => false,
-    }
+    matches!(state, 2 | 12 | 14 | 15 | 17)
 }
 
+#[tactic(auto, unfolding(crate::specs::Sound::sound_state))]
 pub fn is_sound(k: u32, state: u8, wait: u32) -> bool
     ensures { result ≡ sound_state k state wait }
 {
-    if 19 < state {
-        return false;
+    match state {
+        3 if k != 0 => false,
+        0..=19 => wait == 0 || is_waiting(state) && wait <= 255,
+        _ => false,
     }
-    if state == 3 && k != 0 {
-        return false;
-    }
-    if 255 < wait {
-        return false;
-    }
-    is_waiting(state) || wait == 0
 }

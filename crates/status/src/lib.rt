@@ -7,6 +7,7 @@ ghost use Rattle.status.specs.Class.{emulator, class_of, counted};
 ghost use Rattle.status.specs.Support.Merger.{owner_of, rank_at, merger_of};
 
 use settings::{Ignores, Settings};
+use std::array;
 
 // The classes, numbered by rank.
 pub const RANK_NONE: u8 = 0;
@@ -25,25 +26,17 @@ pub const RANK_BAD: u8 = 6;
 
 pub const RANK_DISCONNECTED: u8 = 7;
 
-fn is_emulator(input: usize) -> bool
+// Partitions 24 to 31 may be emulators.
+pub fn is_emulator(input: usize) -> bool
     ensures { result ≡ emulator input }
 {
-    24 <= input && input <= 31
-}
-
-fn emulated(input: usize) -> u8
-    ensures { result ≡ class_of input 11 }
-{
-    if is_emulator(input) {
-        RANK_BUSY
-    } else {
-        RANK_BAD
-    }
+    (24..=31).contains(&input)
 }
 
 // The class of a code, by the kind of its input: 0 to 31 partitions, 32 to 39 aTTS, 40 GTFE.
 // It is Table 1 of the manual (document 003, 2.1.1) row by row, so that the two can be laid side by side.
-pub(crate) fn class(input: usize, code: u8) -> u8
+#[tactic(auto, unfolding(crate::specs::Class::class_of))]
+fn class(input: usize, code: u8) -> u8
     ensures { result ≡ class_of input code }
 {
     match code {
@@ -58,7 +51,8 @@ pub(crate) fn class(input: usize, code: u8) -> u8
         0b1000 => RANK_READY,
         0b1001 => RANK_BAD,
         0b1010 => RANK_BAD,
-        0b1011 => emulated(input),
+        0b1011 if is_emulator(input) => RANK_BUSY,
+        0b1011 => RANK_BAD,
         0b1100 => RANK_ERROR,
         0b1101 => RANK_BAD,
         0b1110 => RANK_BAD,
@@ -68,16 +62,15 @@ pub(crate) fn class(input: usize, code: u8) -> u8
 }
 
 // What a member of that class counts: nothing where the settings ignore it.
+#[tactic(auto, unfolding(crate::specs::Class::counted))]
 fn counts(ignores: Ignores, class: u8) -> u8
     ensures { result ≡ counted ignores class }
 {
-    if ignores.disc && class == RANK_DISCONNECTED {
-        return RANK_NONE;
+    match class {
+        RANK_DISCONNECTED if ignores.disc => RANK_NONE,
+        RANK_BAD if ignores.bad => RANK_NONE,
+        _ => class,
     }
-    if ignores.bad && class == RANK_BAD {
-        return RANK_NONE;
-    }
-    class
 }
 
 // What of the settings the merge needs, made once for many crossings.
@@ -87,6 +80,7 @@ pub struct Merger {
     pub ranks: [u8; 32],
 }
 
+#[tactic(auto, unfolding(crate::specs::Support::Merger::owner_of))]
 fn owner(s: Settings, input: usize) -> u32
     requires { input < 40 }
     ensures { result ≡ owner_of s input }
@@ -101,15 +95,10 @@ fn owner(s: Settings, input: usize) -> u32
 fn owners(s: Settings) -> [u32; 40]
     ensures { result ≡ tabulate (owner_of s) 0 40 }
 {
-    let mut all = [0u32; 40];
-    let mut n = 0;
-    while n < 40 {
-        all[n] = owner(s, n);
-        n += 1;
-    }
-    all
+    array::from_fn(|n| owner(s, n))
 }
 
+#[tactic(auto, unfolding(crate::specs::Support::Merger::rank_at))]
 fn rank(ignores: Ignores, place: usize) -> u8
     requires { place < 32 }
     ensures { result ≡ rank_at ignores place }
@@ -121,24 +110,17 @@ fn rank(ignores: Ignores, place: usize) -> u8
 fn ranks(ignores: Ignores) -> [u8; 32]
     ensures { result ≡ tabulate (rank_at ignores) 0 32 }
 {
-    let mut all = [0u8; 32];
-    let mut n = 0;
-    while n < 32 {
-        all[n] = rank(ignores, n);
-        n += 1;
-    }
-    all
+    array::from_fn(|n| rank(ignores, n))
 }
 
 impl Merger {
+    #[tactic(auto, unfolding(crate::specs::Support::Merger::merger_of))]
     pub fn of(s: Settings) -> Merger
         ensures { result ≡ merger_of s }
     {
-        let owners = owners(s);
-        let ranks = ranks(s.ignores());
         Merger {
-            owners: owners,
-            ranks: ranks,
+            owners: owners(s),
+            ranks: ranks(s.ignores()),
         }
     }
 }

@@ -1,20 +1,16 @@
 -- Laws of steady codes: each input by itself, well-formed codes stay so, and where carried and believed are the new codes nothing changes.
 -- The two nibbles of a byte are digits in base 16.
 use mathlib.Core.Path.{◌≡◌, refl, sym, ◌∙◌}
-use mathlib.Core.Logic.{⊎_elim}
-use mathlib.Core.Bool.{true, false}
+use mathlib.Core.Bool.{true}
 use mathlib.Core.List.{List, [], ◌∷◌}
 use Prim.Native.Nat.{ℕ, ◌+◌, ◌/◌, ◌%◌, ◌≤◌, ◌<◌}
 use native.Mathlib.Nat.{zero-add}
 use native.Mathlib.Omega.{arith}
-use borrow.Author.Tests.{eq-eqb, ne_eqb, lt-ltb, ltb-true}
-use lib.Dec.{eqb, ltb}
+use borrow.Author.Tests.{eq-eqb, ne_eqb}
 use lib.ListN.{length, get_or, get_or-eq_default}
 use lib.Seq.{ext_get_or}
-use Rattle.laws.specs.Base.{map_i}
-use Rattle.laws.proofs.Bools.{if_most, both, and_yes}
-use Rattle.laws.proofs.Tests.{either, lt_or_ge, same_or_not}
-use Rattle.laws.proofs.Over.{length-map_i, get_or-map_i}
+use Rattle.laws.specs.Base.{map_i, tabulate}
+use Rattle.laws.proofs.Over.{length-map_i, get_or-map_i, length_tabulate, get_d_tabulate}
 use Rattle.status.specs.Codes.{code_at, Coded}
 use Rattle.status.proofs.Codes.{code_low}
 use Rattle.steady.specs.declared.Held.{Held}
@@ -35,35 +31,28 @@ once carried believed code differs = rw (ne_eqb carried code differs)
 
 steady_low : (c b n m : ℕ) → b ≤ m → n ≤ m → steady c b n ≤ m
 unfolding steady
-steady_low c b n m p q = if_most (eqb c n) n b m q p
+steady_low c b n m p q = grind arith
 
 pub byte_low : (c b n : ℕ) → steady_byte c b n % 16 ≡ steady (c % 16) (b % 16) (n % 16)
-unfolding steady_byte
-byte_low c b n = let h = steady_low (c % 16) (b % 16) (n % 16) 15 (omega arith) (omega arith) in omega arith
+unfolding steady_byte steady
+byte_low c b n = grind arith
 
 pub byte_high : (c b n : ℕ) → steady_byte c b n / 16 ≡ steady (c / 16) (b / 16) (n / 16)
-unfolding steady_byte
-byte_high c b n = let h = steady_low (c % 16) (b % 16) (n % 16) 15 (omega arith) (omega arith) in omega arith
+unfolding steady_byte steady
+byte_high c b n = grind arith
 
 byte_fits : (c b n : ℕ) → b < 256 → n < 256 → steady_byte c b n < 256
-unfolding steady_byte
-byte_fits c b n p q =
-    let h = steady_low (c % 16) (b % 16) (n % 16) 15 (omega arith) (omega arith) in
-    let g = steady_low (c / 16) (b / 16) (n / 16) 15 (omega arith) (omega arith) in
-    omega arith
+unfolding steady_byte steady
+byte_fits c b n p q = grind arith
 
 -- a byte with one code in it
 small : (c b n : ℕ) → c < 16 → b < 16 → n < 16 → steady_byte c b n ≡ steady c b n
-unfolding steady_byte
-small c b n p q r =
-    let x : (m : ℕ) → m < 16 → m % 16 ≡ m = λ m h. omega arith in
-    let y : (m : ℕ) → m < 16 → m / 16 ≡ 0 = λ m h. omega arith in
-    let z : steady 0 0 0 ≤ 0 = steady_low 0 0 0 0 (omega arith) (omega arith) in
-    rw (x c p, x b q, x n r, y c p, y b q, y n r) (omega arith)
+unfolding steady_byte steady
+small c b n p q r = grind arith
 
 byte_twice : (b n : ℕ) → steady_byte n b n ≡ n
-unfolding steady_byte
-byte_twice b n = rw (twice (b % 16) (n % 16), twice (b / 16) (n / 16)) (omega arith)
+unfolding steady_byte steady
+byte_twice b n = grind arith
 
 module _ (carried believed codes : List ℕ) where
   pub believed_long : length (believed_of carried believed codes) ≡ length believed
@@ -73,6 +62,13 @@ module _ (carried believed codes : List ℕ) where
   pub believed_get : (k : ℕ) → k < length believed → get_or (believed_of carried believed codes) k 0 ≡ steady_byte (get_or carried k 0) (get_or believed k 0) (get_or codes k 0)
   unfolding believed_of
   believed_get k h = get_or-map_i _ 0 k believed 0 0 h ∙ rw zero-add
+
+  -- place by place
+  pub believed_table : (n : ℕ) → length believed ≡ n → tabulate (λ k. steady_byte (get_or carried k 0) (get_or believed k 0) (get_or codes k 0)) 0 n ≡ believed_of carried believed codes
+  believed_table n long =
+      let table = tabulate (λ k. steady_byte (get_or carried k 0) (get_or believed k 0) (get_or codes k 0)) 0 n in
+      ext_get_or 0 table (believed_of carried believed codes) (length_tabulate _ 0 n ∙ sym long ∙ sym believed_long)
+      (λ k l. let below : k < n = rw (length_tabulate _ 0 n) at l in get_d_tabulate _ 0 n k 0 below ∙ rw zero-add (sym (believed_get k (omega arith))))
 
 -- codes that the crossing before carried too are all believed
 pub all_twice : (believed codes : List ℕ) → length believed ≡ length codes → believed_of codes believed codes ≡ codes
@@ -94,14 +90,10 @@ pub no_news : (carried believed codes : List ℕ) → carried ≡ codes → beli
 unfolding news_of
 no_news carried believed codes c b = rw (b, c, firm codes, same_self codes 21)
 
-pub held_firm : (h : Held) (codes : List ℕ) → h.carried ≡ codes → h.believed ≡ codes → next_held h codes ≡ h
-unfolding next_held
-held_firm h codes e f = rw (e, f, firm codes)
-
 first_low : (carried believed codes : List ℕ) → get_or carried 0 0 < 16 → get_or believed 0 0 < 16 → get_or codes 0 0 < 16 → get_or (believed_of carried believed codes) 0 0 < 16
 unfolding believed_of map_i
 first_low carried [] codes p q r = omega arith
-first_low carried (b ∷ l) codes p q r = rw (small _ _ _ p q r) (omega (arith, steady_low (get_or carried 0 0) b (get_or codes 0 0) 15 (omega arith) (omega arith)))
+first_low carried (b ∷ l) codes p q r = grind (arith, small, steady_low)
 
 -- each input by itself, whatever else the bytes hold
 module _ (carried believed codes : List ℕ) (long : length believed ≡ 21) (c : get_or carried 0 0 < 16) (b : get_or believed 0 0 < 16) (n : get_or codes 0 0 < 16) where
@@ -110,22 +102,10 @@ module _ (carried believed codes : List ℕ) (long : length believed ≡ 21) (c 
 
   pub believed_code : (i : ℕ) → i < 41 → code_at (believed_of carried believed codes) i ≡ steady (code_at carried i) (code_at believed i) (code_at codes i)
   unfolding code_at
-  believed_code i h =
-      ⊎_elim
-      (λ (e : i ≡ 40). rw (eq-eqb i 40 e, at_byte 0 (omega arith)) (small (get_or carried 0 0) (get_or believed 0 0) (get_or codes 0 0) c b n))
-      (λ (e : i ≡ 40 → ⊥).
-      let k = 1 + i / 2 in
-      let inside : k < 21 = omega arith in
-      ⊎_elim
-      (λ (t : eqb (i % 2) 0 ≡ true). rw (ne_eqb i 40 e, t, at_byte k inside) (byte_low (get_or carried k 0) (get_or believed k 0) (get_or codes k 0)))
-      (λ (t : eqb (i % 2) 0 ≡ false). rw (ne_eqb i 40 e, t, at_byte k inside) (byte_high (get_or carried k 0) (get_or believed k 0) (get_or codes k 0)))
-      (either (eqb (i % 2) 0)))
-      (same_or_not i 40)
+  believed_code i h = grind (arith, at_byte 0, at_byte (1 + i / 2), small, byte_low, byte_high)
 
   pub believed_first : get_or (believed_of carried believed codes) 0 0 < 16
-  believed_first =
-      rw (at_byte 0 (omega arith), small (get_or carried 0 0) (get_or believed 0 0) (get_or codes 0 0) c b n)
-      (omega (arith, steady_low (get_or carried 0 0) (get_or believed 0 0) (get_or codes 0 0) 15 (omega arith) (omega arith)))
+  believed_first = grind (arith, at_byte 0, small, steady_low)
 
 -- well-formed codes stay so
 pub believed_coded : (carried believed codes : List ℕ) → Coded carried → Coded believed → Coded codes → Coded (believed_of carried believed codes)
@@ -135,14 +115,7 @@ believed_coded carried believed codes c b n =
       long = long;
       gtfe = believed_first carried believed codes b.long c.gtfe b.gtfe n.gtfe;
       bytes =
-          λ k.
-          ⊎_elim
-          (λ (h : k < 21).
-          rw (believed_get carried believed codes k (rw b.long h)) (byte_fits (get_or carried k 0) (get_or believed k 0) (get_or codes k 0) (b.bytes k) (n.bytes k)))
-          (λ (h : 21 ≤ k).
-          let past : length (believed_of carried believed codes) ≤ k = rw long h in
-          rw (get_or-eq_default (believed_of carried believed codes) 0 past) (omega arith))
-          (lt_or_ge k 21);
+          λ k. grind (arith, believed_long, believed_get carried believed codes k, byte_fits, get_or-eq_default (believed_of carried believed codes) 0, b.bytes k, n.bytes k);
     }
 
 -- by the codes of the last two crossings and the one believed before, and by nothing else
@@ -160,15 +133,15 @@ fresh_held_sound = refl
 module _ (h : Held) (sound : sound_held h ≡ true) where
   pub carried_low : get_or h.carried 0 0 < 16
   unfolding sound_held code_at
-  carried_low = ltb-true _ _ (both (ltb (get_or h.carried 0 0) 16) _ sound).0
+  carried_low = grind arith
 
   pub believed_low : get_or h.believed 0 0 < 16
   unfolding sound_held code_at
-  believed_low = ltb-true _ _ (both (ltb (get_or h.carried 0 0) 16) _ sound).1
+  believed_low = grind arith
 
   pub next_sound : (codes : List ℕ) → get_or codes 0 0 < 16 → sound_held (next_held h codes) ≡ true
   unfolding sound_held next_held code_at
-  next_sound codes low = and_yes _ _ (lt-ltb _ _ low) (lt-ltb _ _ (first_low h.carried h.believed codes carried_low believed_low low))
+  next_sound codes low = grind (arith, first_low, carried_low, believed_low)
 
 -- of bytes, the GTFE codes being low makes all of them low
 pub all_held : AllHeld
@@ -179,5 +152,5 @@ all_held h c b =
         code_low h.carried (record { long = c.long; gtfe = carried_low h sound; bytes = c.bytes }) i,
         code_low h.believed (record { long = b.long; gtfe = believed_low h sound; bytes = b.bytes }) i,
       );
-      sound = λ low. let w = low 40 (omega arith) in and_yes _ _ (lt-ltb _ _ w.0) (lt-ltb _ _ w.1);
+      sound = λ low. grind (arith, low 40 (omega arith));
     }

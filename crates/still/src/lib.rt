@@ -2,23 +2,23 @@
 // controller where it was, and then only those that ask matter.
 #![tactic(auto)]
 
-ghost use Rattle.std.specs.Prelude.{◌≡◌, true, not, ◌||◌, ℕ, ◌+◌, ◌*◌, ◌%◌, ◌<◌, ◌≤◌, eqb, length, get_or};
+ghost use Rattle.std.specs.Prelude.{◌≡◌, true, not, ◌||◌, ◌%◌, ◌<◌, ◌≤◌, eqb, length, get_or};
 ghost use Rattle.status.specs.Codes.{Coded};
 ghost use Rattle.lanes.specs.Support.Lanes.{lane_classes};
-ghost use Rattle.steady.specs.Steady.{believed_of};
+ghost use Rattle.steady.specs.Held.{next_held, AreBytes};
 ghost use Rattle.throttle.specs.Rules.{Sensible};
 ghost use Rattle.clock.specs.Support.Room.{SlotRoom};
 ghost use Rattle.states.specs.Moves.{moved_of};
-ghost use Rattle.records.specs.Records.{rec_at, codes_in, asked_in};
+ghost use Rattle.records.specs.Records.{codes_in, asked_in};
 ghost use Rattle.ptc.specs.Support.Times.{schedule_from};
 ghost use Rattle.kit.specs.Support.Laid.{plain_in};
 ghost use Rattle.still.specs.Support.Still.{due_of, next_due};
 ghost use Rattle.still.specs.Support.Sight.{sight_of, scene_for, first_sight};
 
 use clock::{Clock, Turn};
+use kit::Kit;
 use ptc::{Ptc, Scene};
-use records::RECORD;
-use settings::{Rules, Waits};
+use steady::Held;
 
 // What is told from one record to the next, and what this crossing brings.
 #[derive(Clone, Copy)]
@@ -77,53 +77,46 @@ fn classes_of(table: &[u64; 656], before: [u8; 8], stays: bool, believed: &[u8; 
 }
 
 impl Sight {
-    // Before the first record, by the codes that are held. That lent codes are bytes is told on.
-    pub fn first(turn: Turn, table: &[u64; 656], carried: &[u8; 21], believed: &[u8; 21]) -> Sight
-        requires { (length carried.now ≡ 21) × (length believed.now ≡ 21) × (get_or believed.now 0 0 < 16) }
-        ensures { (result ≡ first_sight turn table.now carried.now believed.now) × ((n : ℕ) → get_or carried.now n 0 < 256) × ((n : ℕ) → get_or believed.now n 0 < 256) }
+    // Before the first record, by the codes that are held. That they are 21 bytes is told on.
+    pub fn first(turn: Turn, kit: &Kit, held: &Held) -> Sight
+        requires { get_or held.now.believed 0 0 < 16 }
+        ensures { (result ≡ first_sight turn kit.now.lanes held.now.carried held.now.believed) × AreBytes held.now.carried × AreBytes held.now.believed }
     {
-        let firm = steady::is_firm(carried, believed);
-        let classes = lanes::merge(table, believed);
         Sight {
-            turn: turn,
-            classes: classes,
-            firm: firm,
+            turn,
+            classes: lanes::merge(&kit.lanes, &held.believed),
+            firm: held.is_firm(),
             marker: false,
             requests: 0,
             due: 0,
         }
     }
 
-    // What record i, a crossing, brings, and the held codes after it. Whether all eight are at rest under the classes before it is told.
+    // What a record that is a crossing brings, and the held codes after it. Whether all eight are at rest under the classes before
+    // it is told.
     pub fn next(
         self,
+        kit: &Kit,
         busy: &[u8; 4096],
-        table: &[u64; 656],
-        slots: &[u32; 8],
         clock: Clock,
         calm: bool,
-        carried: &mut [u8; 21],
-        believed: &mut [u8; 21],
-        log: &[u8],
-        i: usize,
+        held: &mut Held,
+        rec: &[u8],
     ) -> Sight
-        requires { (24 * i + 24 ≤ length log.now) × (Coded (codes_in (rec_at log.now i))) × (Coded carried.old) × (Coded believed.old) × (self.classes ≡ lane_classes table.now believed.old) × (self.firm ≡ true → believed.old ≡ carried.old) × (SlotRoom slots.now) × (self.turn.holder ≤ 8) }
-        ensures { (result ≡ sight_of busy.now table.now slots.now clock self.turn calm carried.old believed.old (rec_at log.now i)) × (believed.new ≡ believed_of carried.old believed.old (codes_in (rec_at log.now i))) × (carried.new ≡ codes_in (rec_at log.now i)) }
+        requires { (length rec.now ≡ 24) × (Coded (codes_in rec.now)) × (Coded held.old.carried) × (Coded held.old.believed) × (self.classes ≡ lane_classes kit.now.lanes held.old.believed) × (self.firm ≡ true → held.old.believed ≡ held.old.carried) × (SlotRoom kit.now.slots) × (self.turn.holder ≤ 8) }
+        ensures { (result ≡ sight_of busy.now kit.now.lanes kit.now.slots clock self.turn calm held.old.carried held.old.believed rec.now) × (held.new ≡ next_held held.old (codes_in rec.now)) }
     {
-        let marker = log[RECORD * i + 1] == 1;
-        let requests = log[RECORD * i + 2];
-        let codes = &log[RECORD * i + 3..RECORD * i + RECORD];
-        let news = steady::follow(carried, believed, self.firm, codes);
-        let before = self.classes;
-        let classes = classes_of(table, before, news.stays, believed);
-        let turn = self.turn.turned(slots, clock.ends_orbit(marker));
+        let marker = rec[1] == 1;
+        let requests = rec[2];
+        let news = held.follow(self.firm, &rec[3..]);
+        let classes = classes_of(&kit.lanes, self.classes, news.stays, &held.believed);
         let number = clock.number(marker);
         Sight {
-            turn: turn,
-            classes: classes,
+            turn: self.turn.turned(&kit.slots, clock.ends_orbit(marker)),
+            classes,
             firm: news.firm,
-            marker: marker,
-            requests: requests,
+            marker,
+            requests,
             due: due(plain::both(calm, news.stays), busy, number, requests),
         }
     }
@@ -137,43 +130,34 @@ fn asks(p: Ptc, holder: u32, requests: u8) -> bool
 }
 
 // Whether the holder is in WARN after its move.
-fn is_warned(p: Ptc, times: &[u32; 88], waits: Waits, number: u32, holder: u32, class: u8) -> bool
-    ensures { result ≡ eqb (moved_of (schedule_from times.now holder) waits holder number class p.state p.wait).state 8 }
+fn is_warned(p: Ptc, kit: &Kit, number: u32, holder: u32, class: u8) -> bool
+    ensures { result ≡ eqb (moved_of (schedule_from kit.now.times holder) kit.now.waits holder number class p.state p.wait).state 8 }
 {
     if p.is_at_rest(class) {
         return p.state == 8;
     }
-    let at = ptc::schedule_of(times, holder);
-    let step = states::advance(at, waits, holder, number, class, p.state, p.wait);
+    let at = ptc::schedule_of(&kit.times, holder);
+    let step = states::advance(at, kit.waits, holder, number, class, p.state, p.wait);
     step.state == 8
 }
 
 impl Sight {
     // What all eight see of a crossing. Only the holder, whose value p is, can send: so the rules are looked at only where it asks.
-    pub fn scene(
-        self,
-        times: &[u32; 88],
-        waits: Waits,
-        rules: Rules,
-        p: Ptc,
-        marks: &[u64; 32],
-        clock: Clock,
-    ) -> Scene
-        requires { Sensible rules }
-        ensures { result ≡ scene_for times.now waits rules p self marks.now clock }
+    pub fn scene(self, kit: &Kit, p: Ptc, marks: &[u64; 32], clock: Clock) -> Scene
+        requires { Sensible kit.now.rules }
+        ensures { result ≡ scene_for kit.now.times kit.now.waits kit.now.rules p self marks.now clock }
     {
         let number = clock.number(self.marker);
         let holder = self.turn.holder;
         let mut rule = 0;
         if asks(p, holder, self.requests) {
-            let h = (holder % 8) as usize;
-            let classes = self.classes;
-            let warn = is_warned(p, times, waits, number, holder, classes[h]);
-            rule = throttle::refused_by(marks, rules, clock.crossings, warn);
+            let class = self.classes[(holder % 8) as usize];
+            let warn = is_warned(p, kit, number, holder, class);
+            rule = throttle::refused_by(marks, kit.rules, clock.crossings, warn);
         }
         Scene {
-            number: number,
-            holder: holder,
+            number,
+            holder,
             norm: rule,
             low: rule,
         }

@@ -3,10 +3,12 @@
 use mathlib.Core.Path.{◌≡◌, refl, sym, ap, ◌∙◌}
 use mathlib.Core.Logic.{⊎_elim}
 use mathlib.Core.List.{List, [], ◌∷◌, ◌++◌}
-use Prim.Native.Nat.{ℕ, zero, suc, ◌+◌, ◌/◌, ◌%◌, ◌^◌, ◌≤◌, ◌<◌}
-use native.Mathlib.Nat.{not-suc-le-zero}
+use Prim.Native.Nat.{ℕ, zero, suc, ◌+◌, ◌*◌, ◌/◌, ◌%◌, ◌^◌, ◌≤◌, ◌<◌}
+use native.Mathlib.Nat.{not-suc-le-zero, pow-le-pow_right}
+use native.Mathlib.Numerals.{add-one}
 use native.Mathlib.Omega.{arith}
 use borrow.Author.Tests.{lt-ltb, le-ltb}
+use lib.Dec.{lit<}
 use lib.ListN.{length, length-append}
 use Rattle.laws.proofs.Tests.{lt_or_ge}
 use Rattle.text.specs.Decimal.{decimal, decimal_of}
@@ -65,15 +67,41 @@ digits_within =
     (λ n h k pos lt. rw (decimal_small n h) pos)
     (λ n h ih k pos lt. rw (decimal_large n h, length-append) (one_more n k h ih lt))
 
-pub digits_some : (n : ℕ) → 0 < length (decimal n)
-digits_some =
-    decimal_ind (λ n. 0 < length (decimal n))
-    (λ n h. rw (decimal_small n h) (omega arith))
-    (λ n h ih. rw (decimal_large n h, length-append) (omega arith))
+pub digits_most : (n : ℕ) → n < 2 ^ 64 → length (decimal n) ≤ 20
+digits_most n h = digits_within n 20 (lit< tt) (omega arith)
 
--- the count of digits, as a loop that divides by ten goes
 pub one_digit : (n : ℕ) → n < 10 → length (decimal n) ≡ 1
 one_digit n h = rw (decimal_small n h)
 
-pub digit_more_lem : (n : ℕ) → 10 ≤ n → length (decimal n) ≡ length (decimal (n / 10)) + 1
-digit_more_lem n h = rw (decimal_large n h, length-append)
+one_power : (n k : ℕ) → n / 10 < 10 ^ k → n < 10 ^ (k + 1)
+one_power n k h = rw add-one (omega arith)
+
+below : (n : ℕ) → n < 10 ^ length (decimal n)
+below =
+    decimal_ind (λ n. n < 10 ^ length (decimal n))
+    (λ n h. rw (decimal_small n h) h)
+    (λ n h ih. rw (decimal_large n h, length-append) (one_power n (length (decimal (n / 10))) ih))
+
+-- a number between two powers of ten
+pub digits_between : (n k : ℕ) → 10 ^ k ≤ n → n < 10 * 10 ^ k → length (decimal n) ≡ k + 1
+digits_between n k from to =
+    let most : length (decimal n) ≤ suc k = digits_within n (suc k) (omega arith) (omega arith) in
+    ⊎_elim
+    (λ (less : length (decimal n) < k + 1). absurd (omega (arith, below n, pow-le-pow_right {n = 10} (lit< tt) {i = length (decimal n)} {j = k} (omega arith))))
+    (λ (all : k + 1 ≤ length (decimal n)). omega arith)
+    (lt_or_ge (length (decimal n)) (k + 1))
+
+-- the last k digits, as a loop that divides by ten lays them
+abbrev pub last_digits : ℕ → ℕ → List ℕ
+last_digits zero n = []
+last_digits (suc k) n = last_digits k (n / 10) ++ ((48 + n % 10) ∷ [])
+
+pub length_last : (k n : ℕ) → length (last_digits k n) ≡ k
+length_last zero n = refl
+length_last (suc k) n = rw length-append (omega (arith, length_last k (n / 10)))
+
+pub all_digits : (n : ℕ) → last_digits (length (decimal n)) n ≡ decimal n
+all_digits =
+    decimal_ind (λ n. last_digits (length (decimal n)) n ≡ decimal n)
+    (λ n h. let same : n % 10 ≡ n = omega arith in rw (decimal_small n h, same))
+    (λ n h ih. rw (decimal_large n h, length-append, add-one, ih))

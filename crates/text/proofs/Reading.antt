@@ -70,7 +70,7 @@ further : (k u : ℕ) (t r : List ℕ) (v : ℕ) → 0 < u → more k u t ≡ va
 further k u [] r v pos e = cc
 further k u (b ∷ t) r v pos e =
     ⊎_elim
-    (λ (same : b ≡ 10). cc (eq-eqb b 10 same))
+    (λ (same : b ≡ 10). cc)
     (λ (other : b ≡ 10 → ⊥).
     ⊎_elim
     (λ (on : (ltb 0 k && is_digit b) ≡ true).
@@ -88,7 +88,7 @@ alone : (t r : List ℕ) (v : ℕ) → more 0 0 t ≡ value v r → ◌≡◌ {A
 alone [] r v e = cc
 alone (b ∷ t) r v e =
     ⊎_elim
-    (λ (same : b ≡ 10). cc (eq-eqb b 10 same, decimal_small 0 (omega arith)))
+    (λ (same : b ≡ 10). cc (decimal_small 0 (omega arith)))
     (λ (other : b ≡ 10 → ⊥). cc (ne_eqb b 10 other))
     (same_or_not b 10)
 

@@ -4,10 +4,9 @@ use Rattle.board.specs.Fresh.{fresh_board}
 use Rattle.kit.proofs.Settled.{slot_room}
 use Rattle.board.proofs.from_checked.Goals as goal
 
-pub fresh-turn-requires : goal.fresh-turn-requires
-fresh-turn-requires c =
-    rw c.slots_of-slots.ensures (slot_room c.args.s c.requires)
+pub fresh-requires : goal.fresh-requires
+fresh-requires c = rw c.slots_of.ensures (slot_room c.args.settings c.requires)
 
 pub returns : goal.returns
 unfolding fresh_board
-returns c = rw (c.fresh-held.ensures, c.fresh-ptc.ensures, c.fresh-turn.ensures, c.slots_of-slots.ensures)
+returns c = rw (c.fresh-3.ensures, c.fresh-2.ensures, c.fresh.ensures, c.slots_of.ensures)

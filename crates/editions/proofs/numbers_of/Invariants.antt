@@ -2,15 +2,10 @@
 -- The first n + 1 stand there already, and after the last turn all do.
 use mathlib.Core.Path.{◌≡◌}
 use mathlib.Core.List.{◌∷◌}
-use Prim.Native.Nat.{◌+◌, ◌-◌, ◌≤◌}
-use lib.ListN.{length}
-use Rattle.laws.proofs.Over.{over}
+use Prim.Native.Nat.{◌+◌}
+use lib.ListN.{length, take}
 use Rattle.keys.specs.Settings.{newest}
 use Rattle.editions.proofs.numbers_of.Given as goal
 
 abbrev pub invariant-loop-n : goal.invariant-loop-n
-invariant-loop-n l =
-    (l.n ≤ 147) × (length l.v ≡ 147) × (length l.initial.numbers ≡ 148) × (l.numbers ≡ over (l.n + 1) (newest ∷ l.v) l.initial.numbers)
-
-abbrev pub decreases-loop-n : goal.decreases-loop-n
-decreases-loop-n l = 147 - l.n
+invariant-loop-n l = (length l.numbers ≡ 148) × (take (l.n + 1) l.numbers ≡ newest ∷ take l.n l.s.values)

@@ -1,88 +1,50 @@
 -- `editions::read_lines` meets its contract: the lines that are left decide as the whole text does.
 -- Each turn and each way out is one law of the reading loop; the line's answer gives the number and the next place.
-use mathlib.Core.Path.{◌≡◌, refl, sym, ap, subst, ◌∙◌}
-use mathlib.Core.Bool.{false≢true}
-use mathlib.Core.List.{List}
-use Prim.Native.Nat.{ℕ}
+use mathlib.Core.Path.{◌≡◌, refl, ◌∙◌}
+use Prim.Native.Nat.{◌+◌}
 use native.Mathlib.Omega.{arith}
+use borrow.Author.Rules.{rules}
 use lib.ListN.{length-set}
-use Rattle.text.specs.Support.Seen.{line_seen, LineWithin}
-use Rattle.editions.specs.Support.Tables.{count_of}
-use Rattle.editions.specs.Support.Got.{lines_told}
-use Rattle.editions.proofs.Known.{known}
-use Rattle.editions.proofs.Reading.{AtLine, ill_is, out_is, value_is, tail_is, end_is}
+use Rattle.std.specs.Prelude.{Result, Ok, Err, MatchResult}
+use Rattle.std.specs.Result.{IsErrAnd}
+use Rattle.std.proofs.lemmas.Result.{err_from_is_err_and}
+use Rattle.answer.specs.Told.{told_refusal}
+use Rattle.editions.specs.Support.Got.{fault_at}
+use Rattle.editions.proofs.Reading.{fault_is, value_is, tail_is, end_is}
 use Rattle.editions.proofs.read_lines.Goals as goal
 
+-- what came out of `map_err`, and what went in
+module _ {A : Type 0} {E : Type 0} {D : Type 0} (Q : E → D → Type 0) (m : Result A D) where
+  mapped_ok : (r : Result A E) → MatchResult r (λ x. m ≡ Ok x) (λ e. IsErrAnd m (Q e)) → (x : A) → m ≡ Ok x → r ≡ Ok x
+  mapped_ok (Ok y) is x e = cc
+  mapped_ok (Err y) is x e = absurd (rw e at is)
+
+  mapped_err : (r : Result A E) → MatchResult r (λ x. m ≡ Ok x) (λ e. IsErrAnd m (Q e)) → (d : D) → m ≡ Err d → (e : E) × (r ≡ Err e) × Q e d
+  mapped_err (Ok y) is d e = cc
+  mapped_err (Err y) is d e = (y, refl, rw e at is)
+
 pub loop-n-init : goal.loop-n-init
-loop-n-init c = (omega arith, omega arith, refl, refl)
+loop-n-init c = (omega arith, record { long = refl; left = refl })
 
-pub place-p-requires : goal.place-p-requires
-place-p-requires c =
-    omega (arith, c.count-lines.ensures.0)
-
-pub range-requires : goal.range-requires
-range-requires c =
-    (c.place-p.ensures.1, c.low_values-lows.ensures, c.high_values-highs.ensures)
+pub returns-in_err-numbers : goal.returns-in_err-numbers
+returns-in_err-numbers c =
+    let p = err_from_is_err_and c.from_residual.result c.from_residual.ensures.1 in
+    let w = mapped_err _ c.map_err.result c.read_line-line.result c.map_err.ensures.cases _ c.in_err-numbers.was in
+    let says : told_refusal c.in_err-numbers.field-0.0 ≡ fault_at (c.loop-n.n-counter + 1) w.0 = search rules in
+    let more = rw c.count-lines.ensures.0 at c.loop-n-test.true in
+    rw (p.1, p.2) (says ∙ fault_is c.loop-n.invariant.1 _ _ more c.place-place.ensures.0 c.range.ensures.0 w.0 (rw w.1 at c.read_line-line.ensures))
 
 pub loop-n-preserved : goal.loop-n-preserved
 loop-n-preserved c =
-    let text : List ℕ = c.args.text.now in
-    let at_line : AtLine c.args.e c.loop-n.numbers (text) c.loop-n.at c.loop-n.n
-    c.place-p.result c.range.result = record {
-      edition = known c.args.e c.requires.0 c.requires.1;
-      long = c.loop-n.invariant.2;
-      inv = c.loop-n.invariant.3;
-      more = rw c.count-lines.ensures.0 at c.loop-n-test.true;
-      here = c.place-p.ensures.0;
-      range = c.range.ensures.0;
-    } in
-    let says = ap (line_seen (text)) (sym c.in-Value.is) ∙ c.read_line-got.ensures.says in (
-      omega arith,
-      subst (LineWithin (text)) c.in-Value.is c.read_line-got.ensures.inside,
-      simp length-set (at_line).long,
-      value_is (at_line) c.in-Value.v c.in-Value.next says,
-    )
-
-pub returns-in-Ill : goal.returns-in-Ill
-returns-in-Ill c =
-    let text : List ℕ = c.args.text.now in
-    let at_line : AtLine c.args.e c.loop-n.numbers (text) c.loop-n.at c.loop-n.n
-    c.place-p.result c.range.result = record {
-      edition = known c.args.e c.requires.0 c.requires.1;
-      long = c.loop-n.invariant.2;
-      inv = c.loop-n.invariant.3;
-      more = rw c.count-lines.ensures.0 at c.loop-n-test.true;
-      here = c.place-p.ensures.0;
-      range = c.range.ensures.0;
-    } in
-    let w = ill_is (at_line) (ap (line_seen (text)) (sym c.in-Ill.is) ∙ c.read_line-got.ensures.says) in
-    record { says = sym (ap lines_told w); numbers = λ z. absurd (false≢true z) }
-
-pub returns-in-Out : goal.returns-in-Out
-returns-in-Out c =
-    let text : List ℕ = c.args.text.now in
-    let at_line : AtLine c.args.e c.loop-n.numbers (text) c.loop-n.at c.loop-n.n
-    c.place-p.result c.range.result = record {
-      edition = known c.args.e c.requires.0 c.requires.1;
-      long = c.loop-n.invariant.2;
-      inv = c.loop-n.invariant.3;
-      more = rw c.count-lines.ensures.0 at c.loop-n-test.true;
-      here = c.place-p.ensures.0;
-      range = c.range.ensures.0;
-    } in
-    let w = out_is (at_line) (ap (line_seen (text)) (sym c.in-Out.is) ∙ c.read_line-got.ensures.says) in
-    record { says = sym (ap lines_told w); numbers = λ z. absurd (false≢true z) }
+    let b = c.loop-n.invariant.1 in
+    let w = mapped_ok _ c.map_err.result c.read_line-line.result c.map_err.ensures.cases _ c.in_ok-numbers.was in
+    let is = rw w at c.read_line-line.ensures in
+    let more = rw c.count-lines.ensures.0 at c.loop-n-test.true in
+    (is.inside, record { long = simp length-set b.long; left = value_is b _ _ more c.place-place.ensures.0 c.range.ensures.0 _ _ is })
 
 pub returns-then-has_tail : goal.returns-then-has_tail
 returns-then-has_tail c =
-    let k = known c.args.e c.requires.0 c.requires.1 in
-    let last : c.loop-n.n ≡ count_of c.args.e = omega (arith, c.count-lines.ensures.0) in
-    let w = tail_is c.args.e k c.loop-n.numbers _ c.loop-n.at c.loop-n.n c.loop-n.invariant.2 c.loop-n.invariant.3 last c.if-has_tail.true in
-    record { says = rw c.count-lines.ensures.0 w; numbers = λ z. absurd (false≢true z) }
+    rw c.count-lines.ensures.0 (tail_is c.loop-n.invariant.1 (omega (arith, c.count-lines.ensures.0)) c.if-has_tail.true)
 
 pub returns : goal.returns
-returns c =
-    let k = known c.args.e c.requires.0 c.requires.1 in
-    let last : c.loop-n.n ≡ count_of c.args.e = omega (arith, c.count-lines.ensures.0) in
-    let w = end_is c.args.e k c.loop-n.numbers _ c.loop-n.at c.loop-n.n c.loop-n.invariant.2 c.loop-n.invariant.3 last c.if-has_tail.false in
-    record { says = sym (ap lines_told w); numbers = λ z. w }
+returns c = end_is c.loop-n.invariant.1 (omega (arith, c.count-lines.ensures.0)) c.if-has_tail.false

@@ -1,38 +1,31 @@
--- `eight::are_sound` meets its contract: the controllers that are left decide as all eight do.
--- A turn is the law of `all_i` at one place.
-use mathlib.Core.Path.{◌≡◌, refl, sym, ◌∙◌}
+-- `eight::are_sound` meets its contract: the chain asks each controller by its place.
+-- All of the pairs is the law of `all_i` from 0 on.
+use mathlib.Core.Path.{◌≡◌, refl, ◌∙◌}
+use mathlib.Core.Bool.{Bool}
+use mathlib.Core.List.{List, [], ◌∷◌}
+use Prim.Native.Nat.{ℕ, ◌+◌}
+use native.Mathlib.Numerals.{add-one}
 use native.Mathlib.Omega.{arith}
 use borrow.Author.Rules.{rules}
 use lib.ListN.{length}
-use Rattle.laws.proofs.Tests.{mapped_long}
-use Rattle.laws.proofs.All.{alli_next, alli_stop, alli_end}
-use Rattle.ptc.specs.Fresh.{fresh_ptc}
+use Rattle.std.specs.List.{list_all, range_with_len, zip}
+use Rattle.std.proofs.lemmas.Iterator.{YieldsList-from_range, YieldsList-from_slice, YieldsList-from_zip}
+use Rattle.std.proofs.lemmas.Iterator.Search.{all_from_yields_List}
+use Rattle.laws.specs.Base.{all_i}
+use Rattle.laws.proofs.Tests.{tests}
 use Rattle.eight.specs.Eight.{sound_at, sound_eight}
 use Rattle.eight.proofs.are_sound.Goals as goal
 
-pub loop-k-init : goal.loop-k-init
-unfolding sound_eight
-loop-k-init c = (omega arith, refl)
-
-pub returns-then-not-is_sound : goal.returns-then-not-is_sound
-returns-then-not-is_sound c =
-    let eight : length c.args.ptcs ≡ 8 = search (rules, mapped_long) in
-    let l = c.loop-k in
-    let h = c.loop-k-test.true in
-    let a = c.args in
-    sym (l.invariant.1 ∙ alli_stop (sound_at a.holder a.m) a.ptcs l.k fresh_ptc (rw (eight) h) (sym c.is_sound.ensures ∙ c.if-not-is_sound.true))
-
-pub loop-k-preserved : goal.loop-k-preserved
-loop-k-preserved c =
-    let eight : length c.args.ptcs ≡ 8 = search (rules, mapped_long) in
-    let l = c.loop-k in
-    let h = c.loop-k-test.true in
-    let a = c.args in
-    (omega (arith, h), l.invariant.1 ∙ alli_next (sound_at a.holder a.m) a.ptcs l.k fresh_ptc (rw (eight) h) (sym c.is_sound.ensures ∙ c.if-not-is_sound.false))
+all_placed : {A : Type 0} (t : ℕ → A → Bool) (i : ℕ) (l : List A) → list_all (λ (p : ℕ × A). t p.0 p.1) (zip (range_with_len i (length l)) l) ≡ all_i t i l
+unfolding all_i
+all_placed t i [] = refl
+all_placed t i (a ∷ l) = rw (all_placed t (i + 1) l, add-one)
 
 pub returns : goal.returns
+unfolding sound_eight
 returns c =
-    let eight : length c.args.ptcs ≡ 8 = search (rules, mapped_long) in
-    let l = c.loop-k in
     let a = c.args in
-    sym (l.invariant.1 ∙ alli_end (sound_at a.holder a.m) a.ptcs l.k (rw (eight) c.loop-k-test.false))
+    all_from_yields_List (λ p. sound_at a.holder a.m p.0 p.1) c.all.new.self _ c.all.result c.all.ensures.ran
+    (YieldsList-from_zip (YieldsList-from_range 0 8 8 (cc) (omega arith)) (YieldsList-from_slice a.ptcs.now (cc)))
+    (λ x b q k. search (rules, tests))
+    ∙ rw c.told-ptcs at (all_placed (sound_at a.holder a.m) 0 a.ptcs.now)

@@ -1,5 +1,6 @@
 -- Every line of every edition, once: those of the newest edition, then those that only older ones have.
-use Rattle.std.specs.Prelude.{ℕ, List, ◌∷◌, ◌++◌, map, get_or}
+use Rattle.std.specs.Prelude.{ℕ, List, ◌∷◌, ◌++◌, ◌&&◌, ◌||◌, get_or, eqb, leb}
+use Rattle.laws.specs.Base.{if}
 use Rattle.text.specs.declared.Range.{Range}
 use Rattle.text.specs.Bytes.{bytes}
 use Rattle.text.specs.Lines.{Entry, ranges_of}
@@ -16,12 +17,23 @@ line_count = 160
 abbrev pub nowhere : Range
 nowhere = record { low = 0; high = 0; digits = 0 }
 
--- the range of each by its place; and the least and the greatest values apart, as the code lends them
+-- the range of each by its place
 unfoldable pub range_at : ℕ → Range
 range_at n = get_or (ranges_of lines) n nowhere
 
-unfoldable pub low_values : List ℕ
-low_values = map (λ (r : Range). r.low) (ranges_of lines)
-
-unfoldable pub high_values : List ℕ
-high_values = map (λ (r : Range). r.high) (ranges_of lines)
+-- its least and its greatest value, as the code tells them place by place
+abbrev pub limits_of : ℕ → ℕ × ℕ
+limits_of n =
+    if (eqb n 0) (2, 3)
+    (if (eqb n 1) (64, 4096)
+    (if (eqb n 4) (2, 7)
+    (if (eqb n 5) (1, 63)
+    (if (eqb n 6 || eqb n 7) (0, 15)
+    (if (eqb n 8) (64, 176)
+    (if (eqb n 9 || eqb n 10) (0, 63)
+    (if (eqb n 11) (1, 2047)
+    (if (eqb n 12 || eqb n 13) (0, 511)
+    (if (eqb n 14 || eqb n 15 || eqb n 148) (0, 1)
+    (if (leb 16 n && leb n 27) (0, 255)
+    (if (leb 116 n && leb n 147) (0, 8)
+    (0, 4095))))))))))))

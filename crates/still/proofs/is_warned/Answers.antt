@@ -13,10 +13,10 @@ use Rattle.still.proofs.is_warned.Goals as goal
 pub returns-then-is_at_rest : goal.returns-then-is_at_rest
 returns-then-is_at_rest c =
     let a = c.args in
-    ap (λ (s : ℕ). eqb s 8) (sym (rest_state (schedule_from a.times.now a.holder) a.waits _ _ _ _ (sym c.is_at_rest.ensures ∙ c.if-is_at_rest.true)))
+    ap (λ (s : ℕ). eqb s 8) (sym (rest_state (schedule_from a.kit.now.times a.holder) a.kit.now.waits _ _ _ _ (sym c.is_at_rest.ensures ∙ c.if-is_at_rest.true)))
 
 pub returns : goal.returns
 returns c =
     let a = c.args in
     ap (λ (m : Moved). eqb m.state 8)
-    (c.advance-step.ensures ∙ ap (λ (at : Schedule). moved_of at a.waits a.holder a.number a.class a.p.state a.p.wait) c.schedule_of-at.ensures)
+    (c.advance-step.ensures ∙ ap (λ (at : Schedule). moved_of at a.kit.now.waits a.holder a.number a.class a.p.state a.p.wait) c.schedule_of-at.ensures)

@@ -1,57 +1,37 @@
 -- `text::put_number` meets its contract: the digits that are left, laid from the same place, make what the whole number makes.
 -- A turn lays the last digit of what is left.
 use mathlib.Core.Path.{◌≡◌, refl, sym, ◌∙◌}
-use mathlib.Core.List.{List, []}
-use Prim.Native.Nat.{ℕ, ◌+◌, ◌-◌, ◌/◌, ◌%◌, ◌≤◌, ◌<◌}
+use mathlib.Core.List.{List}
+use Prim.Native.Nat.{ℕ, suc, ◌+◌, ◌-◌, ◌/◌, ◌%◌, ◌≤◌, ◌<◌}
 use native.Mathlib.Omega.{arith}
-use borrow.Author.Rules.{rules}
 use lib.ListN.{length, set, length-set}
 use Rattle.text.specs.Bytes.{put}
 use Rattle.text.specs.Decimal.{decimal}
-use Rattle.text.proofs.Bytes.{put_cons, put_nil, put_last}
-use Rattle.text.proofs.Decimal.{decimal_small, decimal_large, one_digit, digit_more_lem, digits_some}
+use Rattle.text.proofs.Bytes.{put_nil, put_last}
+use Rattle.text.proofs.Decimal.{last_digits, length_last, all_digits}
 use Rattle.text.proofs.put_number.Goals as goal
 
-turn : (d : List ℕ) (at p r : ℕ) → 10 ≤ r → p ≡ at + length (decimal r) → p ≤ length d → put d at (decimal r) ≡ put (set d (p - 1) (48 + r % 10)) at (decimal (r / 10))
-turn d at p r big e room =
-    let here : at + length (decimal (r / 10)) ≡ p - 1 = omega (arith, digit_more_lem r big) in
-    let inside : at + length (decimal (r / 10)) < length d = omega (arith, digit_more_lem r big) in
-    rw (decimal_large r big, put_last d at (decimal (r / 10)) (48 + r % 10) inside, here)
+start : (d : List ℕ) (at n w : ℕ) → w ≡ length (decimal n) → put d at (last_digits (at + w - at) n) ≡ put d at (decimal n)
+start d at n w e = let all : at + w - at ≡ length (decimal n) = omega arith in rw (all, all_digits)
 
-last : (d : List ℕ) (at p r : ℕ) → r < 10 → p ≡ at + length (decimal r) → p ≤ length d → put d at (decimal r) ≡ set d (p - 1) (48 + r)
-last d at p r small e room =
-    let here : at ≡ p - 1 = omega (arith, one_digit r small) in
-    let inside : at < length d = omega (arith, one_digit r small) in
-    rw (decimal_small r small, put_cons d at (48 + r) [] inside, put_nil, here)
+turn : (d : List ℕ) (at p r : ℕ) → at < p → p ≤ length d → put (set d (p - 1) (48 + r % 10)) at (last_digits (p - 1 - at) (r / 10)) ≡ put d at (last_digits (p - at) r)
+turn d at p r more room =
+    let k : ℕ = p - 1 - at in
+    let here : at + length (last_digits k (r / 10)) ≡ p - 1 = omega (arith, length_last k (r / 10)) in
+    let inside : at + length (last_digits k (r / 10)) < length d = omega arith in
+    let one : p - at ≡ suc k = omega arith in
+    rw (one, put_last d at (last_digits k (r / 10)) (48 + r % 10) inside, here)
 
-pub loop-rest-init : goal.loop-rest-init
-loop-rest-init c = (refl, omega arith, omega arith, refl)
+finish : (d : List ℕ) (at p r : ℕ) → p ≤ at → put d at (last_digits (p - at) r) ≡ d
+finish d at p r done = let none : p - at ≡ 0 = omega arith in rw (none, put_nil)
 
-pub overflow_sub-p : goal.overflow_sub-p
-overflow_sub-p c = omega (arith, digits_some c.loop-rest.rest)
+pub loop-p-init : goal.loop-p-init
+loop-p-init c = (refl, start _ _ _ _ c.width.ensures)
 
-pub bounds-out-p : goal.bounds-out-p
-bounds-out-p c = omega (arith, digits_some c.loop-rest.rest)
-
-pub loop-rest-preserved : goal.loop-rest-preserved
-loop-rest-preserved c =
-    let i = c.loop-rest.invariant in (
-      simp length-set i.0,
-      omega (arith, digit_more_lem c.loop-rest.rest c.loop-rest-test.true),
-      simp length-set (omega arith),
-      sym (turn _ _ _ _ c.loop-rest-test.true i.1 i.2) ∙ i.3,
-    )
-
-pub overflow_sub-p-2 : goal.overflow_sub-p-2
-overflow_sub-p-2 c = omega (arith, digits_some c.loop-rest.rest)
-
-pub bounds-out-p-2 : goal.bounds-out-p-2
-bounds-out-p-2 c = omega (arith, digits_some c.loop-rest.rest)
-
-pub shape_of-out : goal.shape_of-out
-shape_of-out c = simp length-set (search rules)
+pub loop-p-preserved : goal.loop-p-preserved
+loop-p-preserved c =
+    let i = c.loop-p.invariant in
+    (simp length-set i.0, turn _ _ _ _ c.loop-p-test.true (omega arith) ∙ i.1)
 
 pub returns : goal.returns
-returns c =
-    let i = c.loop-rest.invariant in
-    (omega arith, sym (last _ _ _ _ c.loop-rest-test.false i.1 i.2) ∙ i.3)
+returns c = (omega arith, sym (finish _ _ _ _ (omega arith)) ∙ c.loop-p.invariant.1)

@@ -2,7 +2,7 @@
 -- The laws of `first_not`, with what the two calls ensure.
 use mathlib.Core.Path.{◌≡◌}
 use mathlib.Core.Bool.{Bool}
-use Prim.Native.Nat.{ℕ, ◌-◌, ◌≤◌}
+use Prim.Native.Nat.{ℕ, ◌-◌}
 use Rattle.laws.specs.Base.{first_not}
 use Rattle.settings.specs.declared.Settings.{Settings}
 use Rattle.settings.specs.Names.{schedule_of}
@@ -13,7 +13,4 @@ abbrev pub ordered : Settings → ℕ → Bool
 ordered s k = cycle_in_order (schedule_of s k)
 
 abbrev pub invariant-loop-k : goal.invariant-loop-k
-invariant-loop-k l = (l.k ≤ 8) × (first_not (ordered l.self) 8 0 ≡ first_not (ordered l.self) (8 - l.k) l.k)
-
-abbrev pub decreases-loop-k : goal.decreases-loop-k
-decreases-loop-k l = 8 - l.k
+invariant-loop-k l = first_not (ordered l.self) 8 0 ≡ first_not (ordered l.self) (8 - l.k) l.k

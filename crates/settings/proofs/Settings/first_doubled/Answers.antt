@@ -4,12 +4,12 @@ use mathlib.Core.Path.{refl, sym, ◌∙◌}
 use mathlib.Core.Logic.{⊎_elim}
 use Prim.Native.Nat.{ℕ, ◌≤◌, ◌<◌}
 use native.Mathlib.Omega.{arith}
-use borrow.Author.Rules.{rules}
 use lib.ListN.{length, replicate, length-replicate, get_or-replicate, get_or-eq_default}
 use Rattle.laws.proofs.Tests.{lt_or_ge}
-use Rattle.laws.proofs.First.{first_start, first_next, first_here, first_end}
+use Rattle.laws.proofs.First.{first_start, first_next}
+use Rattle.settings.proofs.Found.{found_here, found_none}
 use Rattle.settings.specs.Support.Stamps.{places, Lower}
-use Rattle.settings.proofs.Bounds.{eleven, times_fit}
+use Rattle.settings.proofs.Bounds.{times_fit}
 use Rattle.settings.proofs.Settings.first_doubled.Goals as goal
 
 none_stamped : Lower 1 (replicate places 0)
@@ -20,27 +20,24 @@ none_stamped x =
     (lt_or_ge x places)
 
 pub loop-k-init : goal.loop-k-init
-loop-k-init c = (omega arith, search rules, refl, none_stamped, first_start _ _)
+loop-k-init c = (refl, none_stamped, first_start _ _)
 
 pub stamp_all-requires : goal.stamp_all-requires
 stamp_all-requires c =
-    let b = c in
-    let fits = times_fit b.args.self b.requires c.loop-k.k (omega arith) in
-    (c.loop-k.invariant.2, rw (eleven c.loop-k.k) fits, c.loop-k.invariant.3)
+    let fits = times_fit c.args.self.now c.requires c.loop-k.k (omega arith) in
+    (c.loop-k.invariant.0, rw c.times.ensures fits, c.loop-k.invariant.1)
 
 pub returns-then-not-stamp_all : goal.returns-then-not-stamp_all
 returns-then-not-stamp_all c =
-    first_here _ 8 _ c.loop-k-test.true (rw (eleven c.loop-k.k) at (sym c.stamp_all.ensures.0) ∙ c.if-not-stamp_all.true) c.loop-k.invariant.4
+    found_here _ _ c.loop-k.invariant.2 (omega arith) (rw c.times.ensures at (sym c.stamp_all.ensures.0) ∙ c.if-not-stamp_all.true)
 
 pub loop-k-preserved : goal.loop-k-preserved
 loop-k-preserved c =
     let yes = c.if-not-stamp_all.false in (
-      omega arith,
-      c.loop-k.invariant.1,
-      c.stamp_all.auto.seen ∙ c.loop-k.invariant.2,
+      c.stamp_all.auto.seen ∙ c.loop-k.invariant.0,
       c.stamp_all.ensures.1 yes,
-      first_next _ 8 _ c.loop-k-test.true (rw (eleven c.loop-k.k) at (sym c.stamp_all.ensures.0) ∙ yes) c.loop-k.invariant.4,
+      first_next _ 8 _ (omega arith) (rw c.times.ensures at (sym c.stamp_all.ensures.0) ∙ yes) c.loop-k.invariant.2,
     )
 
 pub returns : goal.returns
-returns c = first_end _ 8 _ (omega arith) c.loop-k.invariant.4
+returns c = found_none _ _ c.loop-k.invariant.2 (omega arith)

@@ -2,19 +2,17 @@
 -- The laws of `first_not`; before controller k no stamp is above k, so none has its own, which is one more.
 use mathlib.Core.Path.{◌≡◌}
 use mathlib.Core.Bool.{Bool}
-use mathlib.Core.List.{List}
-use Prim.Native.Nat.{ℕ, ◌+◌, ◌-◌, ◌*◌, ◌≤◌}
-use lib.ListN.{length, take, drop}
+use Prim.Native.Nat.{ℕ, ◌+◌, ◌-◌}
+use lib.ListN.{length}
 use Rattle.laws.specs.Base.{first_not}
+use Rattle.settings.specs.declared.Settings.{Settings}
+use Rattle.settings.specs.Names.{times_of}
 use Rattle.settings.specs.Relations.{distinct}
 use Rattle.settings.specs.Support.Stamps.{places, Lower}
 use Rattle.settings.proofs.Settings.first_doubled.Given as goal
 
-abbrev pub apart : List ℕ → ℕ → Bool
-apart v k = distinct (take 11 (drop (27 + 11 * k) v))
+abbrev pub apart : Settings → ℕ → Bool
+apart s k = distinct (times_of s k)
 
 abbrev pub invariant-loop-k : goal.invariant-loop-k
-invariant-loop-k l = (l.k ≤ 8) × (length l.v ≡ 147) × (length l.seen ≡ places) × Lower (l.k + 1) l.seen × (first_not (apart l.v) 8 0 ≡ first_not (apart l.v) (8 - l.k) l.k)
-
-abbrev pub decreases-loop-k : goal.decreases-loop-k
-decreases-loop-k l = 8 - l.k
+invariant-loop-k l = (length l.seen ≡ places) × Lower (l.k + 1) l.seen × (first_not (apart l.self) 8 0 ≡ first_not (apart l.self) (8 - l.k) l.k)

@@ -23,7 +23,7 @@ pub loop-i-init : goal.loop-i-init
 loop-i-init c =
     let a = c.args in
     let all : length a.times.now ≤ length a.times.now = omega arith in
-    (omega arith, c.requires.0, rw (drop_of_length-le a.times.now all) (stamped_none a.stamp a.seen.now c.requires.2))
+    (c.requires.0, rw (drop_of_length-le a.times.now all) (stamped_none a.stamp a.seen.now c.requires.2))
 
 pub overflow_cast-x : goal.overflow_cast-x
 overflow_cast-x c = omega (arith, c.requires.1 (c.loop-i.i - 1))
@@ -34,7 +34,7 @@ bounds-seen-x c = omega (arith, c.requires.1 (c.loop-i.i - 1))
 pub returns-then-seen-x : goal.returns-then-seen-x
 returns-then-seen-x c =
     let i : ℕ = c.loop-i.i - 1 in
-    let e = stamp_twice c.args.stamp c.loop-i.seen _ _ (omega (arith, c.requires.1 i)) c.loop-i.invariant.2 c.if-seen-x.true in
+    let e = stamp_twice c.args.stamp c.loop-i.seen _ _ (omega (arith, c.requires.1 i)) c.loop-i.invariant.1 c.if-seen-x.true in
     (sym (not_distinct c.args.times.now i (from_here c.args.times.now i c.loop-i.i (omega arith) (omega arith) e)), (λ z. absurd (false≢true z)))
 
 pub bounds-seen-x-in-loop-i : goal.bounds-seen-x-in-loop-i
@@ -43,11 +43,11 @@ bounds-seen-x-in-loop-i c = omega (arith, c.requires.1 (c.loop-i.i - 1))
 pub loop-i-preserved : goal.loop-i-preserved
 loop-i-preserved c =
     let i : ℕ = c.loop-i.i - 1 in
-    let next = stamp_next c.args.stamp c.loop-i.seen _ _ (omega (arith, c.requires.1 i)) c.loop-i.invariant.2 c.if-seen-x.false in
-    (omega arith, simp length-set c.loop-i.invariant.1, rw (here c.args.times.now i c.loop-i.i (omega arith) (omega arith)) next)
+    let next = stamp_next c.args.stamp c.loop-i.seen _ _ (omega (arith, c.requires.1 i)) c.loop-i.invariant.1 c.if-seen-x.false in
+    (simp length-set c.loop-i.invariant.0, rw (here c.args.times.now i c.loop-i.i (omega arith) (omega arith)) next)
 
 pub returns : goal.returns
 returns c =
     let i : c.loop-i.i ≡ 0 = omega arith in
-    let s = rw i at c.loop-i.invariant.2 in
+    let s = rw i at c.loop-i.invariant.1 in
     (sym s.apart, (λ z. s.lower))
