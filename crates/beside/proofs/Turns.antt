@@ -3,13 +3,13 @@
 use mathlib.Core.Path.{◌≡◌, refl, sym, ap, ◌∙◌}
 use mathlib.Core.Bool.{true, false}
 use mathlib.Core.List.{List, ◌++◌, append-nil}
-use Prim.Native.Nat.{ℕ, ◌+◌, ◌*◌, ◌≤◌, ◌<◌}
+use Prim.Native.Nat.{ℕ, ◌+◌, ◌-◌, ◌*◌, ◌≤◌, ◌<◌}
 use native.Mathlib.Nat.{add-zero}
 use native.Mathlib.Numerals.{add-one}
 use native.Mathlib.Omega.{arith}
-use borrow.Author.Tests.{eq-eqb, ne_eqb, ltb-true}
-use lib.Dec.{leb, eqb, ltb}
-use lib.ListN.{length, get_or, drop, take-append-drop}
+use borrow.Author.Tests.{ltb-true}
+use lib.Dec.{leb, ltb}
+use lib.ListN.{length, get_or, take, drop, take-append-drop}
 use lib.Seq.{get_or-take, get_or-drop}
 use Rattle.laws.proofs.Bools.{both}
 use Rattle.settings.specs.declared.Settings.{Settings}
@@ -21,7 +21,7 @@ use Rattle.clock.specs.Support.Room.{ClockRoom}
 use Rattle.kit.proofs.Settled.{orbit_some}
 use Rattle.records.specs.Records.{rec_at, is_crossing, marker_in, codes_in, well}
 use Rattle.records.specs.Refusal.{LIFETIME, records_in}
-use Rattle.records.proofs.Laws.{rec_byte, well_at_lem, gtfe_low}
+use Rattle.records.proofs.Laws.{rec_long, well_at_lem, gtfe_low}
 use Rattle.history.specs.declared.Store.{Store}
 use Rattle.history.specs.declared.keep.Pen.{Pen}
 use Rattle.history.specs.Store.{sound_store}
@@ -49,25 +49,11 @@ pub record Stands (x : ℕ) (b : Board) (s : Store) (log words : List ℕ) (pen 
   pub store : store_at words pen ≡ kept_all s (changes_over x i b log)
   pub tracks : Tracks x (ran i b log) f
 
--- what it begins with: the board and the store that the block was handed
-pub record Begins (x : ℕ) (log rows : List ℕ) (orbit : ℕ) (words : List ℕ) (pen : Pen) (f : Follower) (b : Board) (s : Store) : Type 0 where
-  pub through : Through b log rows
-  pub ptcs : length b.ptcs ≡ 8
-  pub marks : length b.marks ≡ 32
-  pub low : x ≤ 40
-  pub counts : orbit ≡ orbit_of b.settings
-  pub words_are : words ≡ s.words
-  pub pen_is : pen ≡ pen_of s
-  pub long : length s.words ≡ 1024
-  pub sound : sound_store s ≡ true
-  pub tracks : Tracks x b f
-
-pub stands_first : (x : ℕ) (log rows : List ℕ) (orbit : ℕ) (words : List ℕ) (pen : Pen) (f : Follower) (b : Board) (s : Store)
-    → Begins x log rows orbit words pen f b s → Stands x b s log words pen f 0
+pub stands_first : (x : ℕ) (log : List ℕ) (pen : Pen) (f : Follower) (b : Board) (s : Store)
+    → pen ≡ pen_of s → length s.words ≡ 1024 → sound_store s ≡ true → Tracks x b f → Stands x b s log s.words pen f 0
 unfolding changes_over ran kept_all
-stands_first x log rows orbit words pen f b s g =
-    rw (g.words_are, g.pen_is)
-    (record { most = omega arith; aligned = record { long = g.long; sound = g.sound; scan = refl }; store = refl; tracks = g.tracks })
+stands_first x log pen f b s e long sound tracks =
+    rw e (record { most = omega arith; aligned = record { long = long; sound = sound; scan = refl }; store = refl; tracks = tracks })
 
 -- ---- what the loop reads
 
@@ -78,15 +64,8 @@ next_low b sound =
     let below = (both (ltb b.clock.next (orbit_of b.settings)) _ (both (leb b.clock.crossings LIFETIME) _ p.clock).1).0 in
     omega (arith, ltb-true b.clock.next (orbit_of b.settings) below, orbit_some b.settings p.checks)
 
-module _ (log : List ℕ) (i : ℕ) where
-  pub is_crossing_lem : get_or log (24 * i) 0 ≡ 0 → is_crossing (rec_at log i) ≡ true
-  is_crossing_lem z = let e : get_or log (24 * i + 0) 0 ≡ 0 = rw add-zero z in eq-eqb _ 0 (rec_byte log i 0 (omega arith) ∙ e)
-
-  pub is_command : (get_or log (24 * i) 0 ≡ 0 → ⊥) → is_crossing (rec_at log i) ≡ false
-  is_command n = ne_eqb _ 0 (λ e. n (let d : get_or log (24 * i + 0) 0 ≡ 0 = sym (rec_byte log i 0 (omega arith)) ∙ e in rw add-zero at d))
-
-  pub marker_read : eqb (get_or log (24 * i + 1) 0) 1 ≡ marker_in (rec_at log i)
-  marker_read = ap (λ (m : ℕ). eqb m 1) (sym (rec_byte log i 1 (omega arith)))
+pub record_lent : (log : List ℕ) (i : ℕ) → take (24 * i + 24 - 24 * i) (drop (24 * i) log) ≡ rec_at log i
+record_lent log i = let e : 24 * i + 24 - 24 * i ≡ 24 = omega arith in rw e
 
 -- ---- a record of a block that was run
 
@@ -107,6 +86,9 @@ module _ (b : Board) (log rows : List ℕ) (th : Through b log rows) (ptcs : len
 
   settled : now.settings ≡ b.settings
   settled = ran_settings b log i
+
+  pub long : length rec ≡ 24
+  long = rec_long log i (records_in log) th.ready.whole h
 
   pub gtfe : is_crossing rec ≡ true → get_or (codes_in rec) 0 0 < 16
   gtfe = gtfe_low rec formed

@@ -2,7 +2,7 @@
 -- Refusals: BOARD, STORE, RANGE with the input, then the block's own. They leave board, store and rows.
 use Rattle.std.specs.Prelude.{ℕ, List, leb}
 use Rattle.laws.specs.Base.{if}
-use Rattle.answer.specs.Told.{Told, told, succeeded, DONE, RANGE, BOARD, STORE}
+use Rattle.answer.specs.Told.{Told, Answer, told, succeeded, DONE, RANGE, BOARD, STORE}
 use Rattle.records.specs.Refusal.{records_in}
 use Rattle.board.specs.declared.Board.{Board}
 use Rattle.board.specs.Sound.{sound_board}
@@ -10,7 +10,6 @@ use Rattle.board.specs.Block.{block_of}
 use Rattle.history.specs.declared.Store.{Store}
 use Rattle.history.specs.Store.{sound_store}
 use Rattle.history.specs.Keep.{kept_all}
-use Rattle.beside.specs.declared.Beside.{Beside}
 use Rattle.beside.specs.Changes.{changes_over}
 
 -- the store after the records of a block
@@ -24,8 +23,8 @@ pub record BesideOut : Type 0 where
   pub store : Store
   pub rows : List ℕ
 
-abbrev pub beside_out : Beside → List ℕ → BesideOut
-beside_out r rows = record { answer = told r.answer; board = r.board; store = r.store; rows = rows }
+abbrev pub beside_out : Answer → Board → Store → List ℕ → BesideOut
+beside_out a b s rows = record { answer = told a; board = b; store = s; rows = rows }
 
 -- what is tried before the block's own refusals
 unfoldable pub beside_answer : Board → Store → ℕ → Told

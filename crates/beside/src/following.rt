@@ -19,62 +19,51 @@ fn first(board: Board, input: usize) -> Follower
     requires { (sound_board board ≡ true) × (input ≤ 40) }
     ensures { Tracks input board result }
 {
-    let clock = board.clock;
-    let held = board.held;
-    let carried = follower::code_at(&held.carried, input);
-    let believed = follower::code_at(&held.believed, input);
     Follower {
-        clock: clock,
-        carried: carried,
-        believed: believed,
+        clock: board.clock,
+        carried: follower::code_at(&board.held.carried, input),
+        believed: follower::code_at(&board.held.believed, input),
     }
 }
 
-fn follow(board: Board, store: Store, input: usize, log: &[u8], rows: &[u8]) -> Store
-    requires { (Through board log.now rows.now) × (sound_store store ≡ true) × (input ≤ 40) }
-    ensures { (result ≡ followed input board log.now store) × (sound_store result ≡ true) }
+fn follow(board: Board, store: &mut Store, input: usize, log: &[u8], rows: &[u8])
+    requires { (Through board log.now rows.now) × (sound_store store.old ≡ true) × (input ≤ 40) }
+    ensures { (store.new ≡ followed input board log.now store.old) × (sound_store store.new ≡ true) }
 {
     let orbit = board.settings.orbit();
-    let n = log.len() / RECORD;
-    let mut words = store.words;
     let mut pen = Pen::of(store);
     let mut seen = first(board, input);
-    let mut i: usize = 0;
-    while i < n {
-        if log[RECORD * i] != 0 {
-            i += 1;
-            continue;
+    for i in 0..log.len() / RECORD {
+        let record = &log[RECORD * i..RECORD * i + RECORD];
+        if record[0] == 0 {
+            let code = follower::code_at(&record[3..], input);
+            seen.crossed(
+                &mut store.words,
+                &mut pen,
+                orbit,
+                record[1] == 1,
+                code,
+                rows[ROW * i],
+            );
         }
-        let marker = log[RECORD * i + 1] == 1;
-        let code = follower::code_at(&log[RECORD * i + 3..RECORD * i + RECORD], input);
-        let step = seen.crossed(&mut words, pen, orbit, marker, code, rows[ROW * i]);
-        let next = step.follower;
-        let on = step.pen;
-        seen = next;
-        pen = on;
-        i += 1;
     }
-    Store {
-        words: words,
-        oldest: pen.oldest,
-        used: pen.used,
-    }
+    store.oldest = pen.oldest;
+    store.used = pen.used;
 }
 
-// The store after a block with this answer: a refused one leaves it.
+// The store after a block with this answer, over the board before it: a refused one leaves it.
 pub fn keep_if(
-    a: Answer,
+    answer: Answer,
     board: Board,
-    store: Store,
+    store: &mut Store,
     input: usize,
     log: &[u8],
     rows: &[u8],
-) -> Store
-    requires { (succeeded (told a) ≡ true → Through board log.now rows.now) × (sound_store store ≡ true) × (input ≤ 40) }
-    ensures { (result ≡ if (succeeded (told a)) (followed input board log.now store) store) × (sound_store result ≡ true) }
+)
+    requires { (succeeded (told answer) ≡ true → Through board log.now rows.now) × (sound_store store.old ≡ true) × (input ≤ 40) }
+    ensures { (store.new ≡ if (succeeded (told answer)) (followed input board log.now store.old) store.old) × (sound_store store.new ≡ true) }
 {
-    if a.is_done() {
-        return follow(board, store, input, log, rows);
+    if answer.is_ok() {
+        follow(board, store, input, log, rows);
     }
-    store
 }

@@ -7,7 +7,7 @@ ghost use Rattle.std.specs.Prelude.{◌≡◌};
 ghost use Rattle.answer.specs.Told.{told};
 ghost use Rattle.beside.specs.Beside.{beside_out, beside_answer, beside_of};
 
-use answer::Answer;
+use answer::{Answer, Refusal};
 use board::Board;
 pub use following::keep_if;
 use history::Store;
@@ -15,49 +15,36 @@ use history::Store;
 // The last input, the GTFE code.
 pub const LAST_INPUT: usize = 40;
 
-// What a block gives back.
-#[derive(Clone, Copy)]
-pub struct Beside {
-    pub answer: Answer,
-    pub board: Board,
-    pub store: Store,
-}
-
 // BOARD, STORE, RANGE with the input, in that order.
-fn refusal(board: Board, store: Store, input: usize) -> Answer
-    ensures { told result ≡ beside_answer board store input }
+#[tactic(auto, unfolding(crate::specs::Beside::beside_answer))]
+fn test(board: &Board, store: &Store, input: usize) -> Answer
+    ensures { told result ≡ beside_answer board.now store.now input }
 {
     if !board.is_sound() {
-        return Answer::Board;
+        return Err(Refusal::Board);
     }
     if !store.is_sound() {
-        return Answer::Store;
+        return Err(Refusal::Store);
     }
     if LAST_INPUT < input {
-        return Answer::Range(input);
+        return Err(Refusal::Range(input));
     }
-    Answer::Done
+    Ok(())
 }
 
-// A refused call returns the board and the store that it got and writes nothing.
-pub fn block(board: Board, store: Store, input: usize, log: &[u8], rows: &mut [u8]) -> Beside
-    ensures { beside_out result rows.new ≡ beside_of board store input log.now rows.old }
+// A refused call leaves the board and the store as they were and writes nothing.
+pub fn block(
+    board: &mut Board,
+    store: &mut Store,
+    input: usize,
+    log: &[u8],
+    rows: &mut [u8],
+) -> Answer
+    ensures { beside_out result board.new store.new rows.new ≡ beside_of board.old store.old input log.now rows.old }
 {
-    let a = refusal(board, store, input);
-    if !a.is_done() {
-        return Beside {
-            answer: a,
-            board: board,
-            store: store,
-        };
-    }
-    let ran = board.block(log, rows);
-    let after = ran.board;
-    let told = ran.answer;
-    let kept = keep_if(told, board, store, input, log, rows);
-    Beside {
-        answer: told,
-        board: after,
-        store: kept,
-    }
+    test(board, store, input)?;
+    let before = *board;
+    let answer = board.block(log, rows);
+    keep_if(answer, before, store, input, log, rows);
+    answer
 }

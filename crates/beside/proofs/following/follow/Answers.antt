@@ -1,113 +1,66 @@
 -- `beside::follow` meets its contract: after i records the store is that of their changes, and the follower stands where the board does.
--- A turn is the law of a crossing or of a command (`Turns`). The loop has no board in it, so what it holds is said of any that it begins with.
-use mathlib.Core.Path.{◌≡◌, refl}
+-- A turn is the law of a crossing or of a command (`Turns`).
+use mathlib.Core.Path.{◌≡◌}
+use mathlib.Core.Bool.{true, false}
 use native.Mathlib.Omega.{arith}
-use lib.ListN.{length}
-use Rattle.laws.proofs.Tests.{mapped_long}
-use Rattle.records.specs.Refusal.{records_in}
-use Rattle.records.proofs.Laws.{codes_lent}
-use Rattle.beside.proofs.Turns.{Begins, stands_first, is_crossing_lem, is_command, gtfe, asked, command_stands, crossing_stands, marker_read}
 use borrow.Author.Rules.{rules}
+use borrow.Author.Tests.{eq-eqb, ne_eqb}
+use lib.ListN.{length, length-drop}
+use Rattle.std.proofs.lemmas.List.{take_rest}
+use Rattle.laws.proofs.Tests.{mapped_long}
+use Rattle.records.specs.Records.{rec_at, is_crossing}
+use Rattle.records.specs.Refusal.{records_in}
+use Rattle.beside.proofs.Turns.{stands_first, record_lent, long, gtfe, asked, command_stands, crossing_stands}
+use Rattle.beside.proofs.following.follow.Goals.{then-record-eq0, else-record-eq0}
 use Rattle.beside.proofs.following.follow.Goals as goal
 
-pub of-pen-requires : goal.of-pen-requires
-of-pen-requires c = c.requires.1
-
-pub first-seen-requires : goal.first-seen-requires
-first-seen-requires c =
-    (c.requires.0.sound, c.requires.2)
-
 pub loop-i-init : goal.loop-i-init
-loop-i-init c = λ board store g. stands_first _ _ _ _ _ _ _ board store g
-
-pub loop-i-preserved-then-log-i-ne0 : goal.loop-i-preserved-then-log-i-ne0
-loop-i-preserved-then-log-i-ne0 c =
-    let l = c.loop-i in
-    let h = c.loop-i-test.true in
-    λ board store g.
-    command_stands board _ _ g.through g.ptcs g.marks l.i h _ store _ _ _ (l.invariant board store g) (is_command _ l.i c.if-log-i-ne0.true)
+loop-i-init c =
+    let words : length c.args.store.now.words ≡ 1024 = search rules in
+    stands_first _ _ _ _ _ _ c.of-pen.ensures words c.requires.1 c.first-seen.ensures
 
 pub code_at-code-requires : goal.code_at-code-requires
 code_at-code-requires c =
-    let ptcs_long : length c.args.board.ptcs ≡ 8 = search (rules, mapped_long) in
-    let marks_long : length c.args.board.marks ≡ 32 = search rules in
-    let begins : (let a = c.args in
-    Begins a.input a.log.now a.rows.now c.orbit-orbit.result a.store.words c.of-pen.result c.first-seen.result a.board a.store) = record {
-      through = c.requires.0;
-      ptcs = ptcs_long;
-      marks = marks_long;
-      low = c.requires.2;
-      counts = c.orbit-orbit.ensures;
-      words_are = refl;
-      pen_is = c.of-pen.ensures;
-      long = search rules;
-      sound = c.requires.1;
-      tracks = c.first-seen.ensures;
-    } in
+    let ptcs : length c.args.board.ptcs ≡ 8 = search (rules, mapped_long) in
+    let marks : length c.args.board.marks ≡ 32 = search rules in
+    let log = c.args.log.now in
+    let i = c.loop-i.i in
+    let r = record_lent log i in
+    let th = c.requires.0 in
     let h = c.loop-i-test.true in
-    let l = c.loop-i in
-    let g = begins in
-    let cross = is_crossing_lem c.args.log.now l.i c.if-log-i-ne0.false in
-    (search rules, rw (codes_lent _ l.i) (gtfe c.args.board _ _ g.through g.ptcs g.marks l.i h cross), g.low)
+    let cross : is_crossing (rec_at log i) ≡ true = eq-eqb _ 0 (rw r at c.if-record-eq0.true) in
+    let whole = long _ _ _ th ptcs marks i h in
+    rw (r, take_rest (rec_at log i) 3) (rw length-drop (omega (arith, whole)), gtfe _ _ _ th ptcs marks i h cross, c.requires.2)
 
-pub overflow_mul-i-in-loop-i-3 : goal.overflow_mul-i-in-loop-i-3
-overflow_mul-i-in-loop-i-3 c = omega (arith, c, c.loop-i-test)
-
-pub crossed-step-requires : goal.crossed-step-requires
-crossed-step-requires c =
-    let ptcs_long : length c.args.board.ptcs ≡ 8 = search (rules, mapped_long) in
-    let marks_long : length c.args.board.marks ≡ 32 = search rules in
-    let begins : (let a = c.args in
-    Begins a.input a.log.now a.rows.now c.orbit-orbit.result a.store.words c.of-pen.result c.first-seen.result a.board a.store) = record {
-      through = c.requires.0;
-      ptcs = ptcs_long;
-      marks = marks_long;
-      low = c.requires.2;
-      counts = c.orbit-orbit.ensures;
-      words_are = refl;
-      pen_is = c.of-pen.ensures;
-      long = search rules;
-      sound = c.requires.1;
-      tracks = c.first-seen.ensures;
-    } in
-    let h = c.loop-i-test.true in
-    let l = c.loop-i in
-    let g = begins in
-    let a = asked c.args.board _ _ g.through g.ptcs g.marks l.i h _ c.args.store _ _ _ (l.invariant _ _ g) in
+pub crossed-requires : goal.crossed-requires
+crossed-requires c =
+    let ptcs : length c.args.board.ptcs ≡ 8 = search (rules, mapped_long) in
+    let marks : length c.args.board.marks ≡ 32 = search rules in
+    let a = asked _ _ _ c.requires.0 ptcs marks c.loop-i.i c.loop-i-test.true _ _ _ _ _ c.loop-i.invariant in
     (a.0, a.1, a.2, a.3, c.code_at-code.ensures.1)
-
-pub overflow_add-i-in-loop-i-3 : goal.overflow_add-i-in-loop-i-3
-overflow_add-i-in-loop-i-3 c = omega (arith, c, c.loop-i-test)
 
 pub loop-i-preserved : goal.loop-i-preserved
 loop-i-preserved c =
+    let ptcs : length c.args.board.ptcs ≡ 8 = search (rules, mapped_long) in
+    let marks : length c.args.board.marks ≡ 32 = search rules in
+    let log = c.args.log.now in
+    let i = c.loop-i.i in
+    let r = record_lent log i in
     let h = c.loop-i-test.true in
-    let l = c.loop-i in
-    λ board store g.
-    let cross = is_crossing_lem _ l.i c.if-log-i-ne0.false in
-    let marker = marker_read c.args.log.now l.i in
-    crossing_stands board _ _ g.through g.ptcs g.marks l.i h _ store _ _ _ (l.invariant board store g) cross g.low c.code_at-code.result
-    (rw (codes_lent c.args.log.now l.i) at c.code_at-code.ensures.0) c.code_at-code.ensures.1 _ c.crossed-step.result.pen c.crossed-step.result.follower
-    (rw (← g.counts, ← marker) c.crossed-step.ensures.0) (rw (← g.counts, ← marker) c.crossed-step.ensures.1) c.crossed-step.ensures.2
+    elim c.if-record-eq0.branch [
+      | then-record-eq0 w ↦
+          let cross : is_crossing (rec_at log i) ≡ true = eq-eqb _ 0 (rw r at w.if-record-eq0.true) in
+          let code = rw (r, take_rest (rec_at log i) 3) at w.code_at-code.ensures in
+          let e = rw (r, c.orbit-orbit.ensures) at w.crossed.ensures in
+          rw (w.store-is, w.pen-is, w.seen-is)
+          (crossing_stands _ _ _ c.requires.0 ptcs marks i h _ _ _ _ _ c.loop-i.invariant cross c.requires.2 _ code.0 code.1 _ _ _ e.0 e.1 e.2)
+      | else-record-eq0 w ↦
+          let command : is_crossing (rec_at log i) ≡ false = ne_eqb _ 0 (rw r at w.if-record-eq0.false) in
+          rw (w.store-is, w.pen-is, w.seen-is) (command_stands _ _ _ c.requires.0 ptcs marks i h _ _ _ _ _ c.loop-i.invariant command)
+    ]
 
 pub returns : goal.returns
 returns c =
-    let ptcs_long : length c.args.board.ptcs ≡ 8 = search (rules, mapped_long) in
-    let marks_long : length c.args.board.marks ≡ 32 = search rules in
-    let begins : (let a = c.args in
-    Begins a.input a.log.now a.rows.now c.orbit-orbit.result a.store.words c.of-pen.result c.first-seen.result a.board a.store) = record {
-      through = c.requires.0;
-      ptcs = ptcs_long;
-      marks = marks_long;
-      low = c.requires.2;
-      counts = c.orbit-orbit.ensures;
-      words_are = refl;
-      pen_is = c.of-pen.ensures;
-      long = search rules;
-      sound = c.requires.1;
-      tracks = c.first-seen.ensures;
-    } in
-    let l = c.loop-i in
-    let st = l.invariant c.args.board c.args.store (begins) in
-    let end : l.i ≡ records_in c.args.log.now = omega (arith, st.most, c.loop-i-test) in
+    let st = c.loop-i.invariant in
+    let end : c.loop-i.i ≡ records_in c.args.log.now = omega (arith, st.most, c.loop-i-test.false) in
     (rw end at st.store, st.aligned.sound)
