@@ -1,11 +1,13 @@
 -- One input, one outcome: two outcomes that meet a contract are seen as the same, and what is seen of an outcome determines it.
 -- An answer is determined by what it tells; a line that was read, by what is said of it (`line_known`).
 use mathlib.Core.Path.{◌≡◌, sym, ap, ap₂, ◌∙◌}
+use mathlib.Core.Bool.{false≢true}
 use mathlib.Core.List.{List}
 use Prim.Native.Nat.{ℕ}
-use Rattle.answer.specs.declared.Answer.{Answer}
-use Rattle.answer.specs.Told.{Told, told}
-use Rattle.answer.proofs.Told.{told_one}
+use Rattle.std.specs.Prelude.{Result, Ok, Err}
+use Rattle.answer.specs.declared.Refusal.{Refusal}
+use Rattle.answer.specs.Told.{Told, Answer, told, told_refusal, succeeded}
+use Rattle.answer.proofs.Told.{told_one, refused, is_ok_told}
 use Rattle.text.proofs.Known.{line_known}
 use Rattle.settings.specs.declared.Settings.{Settings}
 use Rattle.editions.specs.declared.Read.{Read}
@@ -13,7 +15,7 @@ use Rattle.editions.specs.Read.{ReadOut, read_out}
 use Rattle.editions.specs.Write.{WriteOut, write_out}
 use Rattle.records.specs.declared.blocks.Tested.{Tested}
 use Rattle.records.specs.Support.Blocks.{TestedOut, tested_out}
-use Rattle.salvage.specs.declared.Salvaged.{Salvaged}
+use Rattle.salvage.specs.declared.Lengths.{Lengths}
 use Rattle.salvage.specs.Salvage.{SalvageOut, salvage_out}
 use Rattle.history.specs.declared.Store.{Store}
 use Rattle.history.specs.declared.scan.Scan.{Scan}
@@ -23,14 +25,12 @@ use Rattle.history.specs.Store.{kept}
 use Rattle.history.specs.Read.{ReadOut as HistoryOut, read_out as history_out}
 use Rattle.history.specs.Support.Pen.{store_at, Aligned}
 use Rattle.follower.specs.declared.Follower.{Follower}
-use Rattle.follower.specs.declared.Followed.{Followed}
+use Rattle.steady.specs.declared.Held.{Held}
 use Rattle.board.specs.declared.Board.{Board}
 use Rattle.board.specs.declared.Made.{Made}
-use Rattle.board.specs.declared.Ran.{Ran}
 use Rattle.board.specs.Fresh.{MadeOut, made_out}
 use Rattle.board.specs.Block.{RanOut, ran_out}
 use Rattle.report.specs.Report.{ReportOut, report_out}
-use Rattle.beside.specs.declared.Beside.{Beside}
 use Rattle.beside.specs.Beside.{BesideOut, beside_out}
 use Rattle.outcomes.specs.Outcomes.{One, OneOutcome}
 
@@ -59,10 +59,8 @@ laid_within d e P a b p q = laid d e a b (p.0, p.1) (q.0, q.1)
 filled : {B : Type 0} (e : B) → One (λ (o : Unit {0} × B). o.1 ≡ e)
 filled {B} e a b p q = ap (λ (y : B). (tt, y)) (known e a.1 b.1 p q)
 
-held : {A B C : Type 0} (d : A) (e : B) (f : C) → One (λ (o : A × (B × C)). (o.0 ≡ d) × (o.1.1 ≡ f) × (o.1.0 ≡ e))
-held {A} {B} {C} d e f a b p q =
-    ap₂ (λ (x : A) (y : B × C). (x, y)) (known d a.0 b.0 p.0 q.0)
-    (ap₂ (λ (y : B) (z : C). (y, z)) (known e a.1.0 b.1.0 p.2 q.2) (known f a.1.1 b.1.1 p.1 q.1))
+filled_well : {B : Type 0} (e : B) (P : B → Type 0) → One (λ (o : Unit {0} × B). (o.1 ≡ e) × P o.1)
+filled_well e P a b p q = filled e a b p.0 q.0
 
 -- ---- an answer, alone and beside what else is given back
 
@@ -88,11 +86,9 @@ one_made d a b p q =
     beside (λ (z : Answer) (s : Board). record { answer = z; board = s }) a.answer b.answer a.board b.board
     (ap (λ (o : MadeOut). (o.answer, o.board)) (p ∙ sym q))
 
-one_ran : (d : RanOut) → One (λ (o : Ran × List ℕ). ran_out o.0 o.1 ≡ d)
+one_ran : (d : RanOut) → One (λ (o : Answer × (Board × List ℕ)). ran_out o.0 o.1.0 o.1.1 ≡ d)
 one_ran d a b p q =
-    beside (λ (z : Answer) (s : Board × List ℕ). (record { answer = z; board = s.0 }, s.1)) a.0.answer b.0.answer
-    (a.0.board, a.1) (b.0.board, b.1)
-    (ap (λ (o : RanOut). (o.answer, (o.board, o.rows))) (p ∙ sym q))
+    beside (λ (z : Answer) (s : Board × List ℕ). (z, s)) a.0 b.0 a.1 b.1 (ap (λ (o : RanOut). (o.answer, (o.board, o.rows))) (p ∙ sym q))
 
 one_written : (d : WriteOut) → One (λ (o : Answer × List ℕ). write_out o.0 o.1 ≡ d)
 one_written d a b p q =
@@ -106,17 +102,24 @@ one_read_out : (d : HistoryOut) → One (λ (o : Answer × List ℕ). history_ou
 one_read_out d a b p q =
     beside (λ (z : Answer) (s : List ℕ). (z, s)) a.0 b.0 a.1 b.1 (ap (λ (o : HistoryOut). (o.answer, o.buffer)) (p ∙ sym q))
 
-one_beside : (d : BesideOut) → One (λ (o : Beside × List ℕ). beside_out o.0 o.1 ≡ d)
+one_beside : (d : BesideOut) → One (λ (o : Answer × (Board × (Store × List ℕ))). beside_out o.0 o.1.0 o.1.1.0 o.1.1.1 ≡ d)
 one_beside d a b p q =
-    beside (λ (z : Answer) (s : Board × (Store × List ℕ)). (record { answer = z; board = s.0; store = s.1.0 }, s.1.1)) a.0.answer b.0.answer
-    (a.0.board, (a.0.store, a.1)) (b.0.board, (b.0.store, b.1))
+    beside (λ (z : Answer) (s : Board × (Store × List ℕ)). (z, s)) a.0 b.0 a.1 b.1
     (ap (λ (o : BesideOut). (o.answer, (o.board, (o.store, o.rows)))) (p ∙ sym q))
 
-one_salvage : (d : SalvageOut) → One (λ (o : Salvaged × (List ℕ × List ℕ)). salvage_out o.0 o.1.0 o.1.1 ≡ d)
-one_salvage d a b p q =
-    beside (λ (z : Answer) (s : (ℕ × ℕ) × (List ℕ × List ℕ)). (record { answer = z; log = s.0.0; list = s.0.1 }, s.1)) a.0.answer b.0.answer
-    ((a.0.log, a.0.list), a.1) ((b.0.log, b.0.list), b.1)
-    (ap (λ (o : SalvageOut). (o.answer, ((o.log, o.list), (o.salvaged, o.changes)))) (p ∙ sym q))
+-- a salvage that was done tells the lengths, and one that was refused the refusal
+one_written_log : (r q : Result Lengths Refusal) (s c t d : List ℕ) → salvage_out r s c ≡ salvage_out q t d → r ≡ q
+one_written_log (Ok a) (Ok b) s c t d e = ap₂ (λ (m n : ℕ). Ok (record { log = m; list = n })) (ap (λ (o : SalvageOut). o.log) e) (ap (λ (o : SalvageOut). o.list) e)
+one_written_log (Ok a) (Err y) s c t d e = absurd (false≢true (sym (ap (λ (o : SalvageOut). succeeded o.answer) e ∙ refused y)))
+one_written_log (Err x) (Ok b) s c t d e = absurd (false≢true (sym (refused x) ∙ ap (λ (o : SalvageOut). succeeded o.answer) e))
+one_written_log (Err x) (Err y) s c t d e = ap (λ (a : Answer). as_salvage a) (told_one (Err x) (Err y) (ap (λ (o : SalvageOut). o.answer) e))
+  where
+    as_salvage : Answer → Result Lengths Refusal
+    as_salvage (Ok done) = Err x
+    as_salvage (Err z) = Err z
+
+one_salvage : (d : SalvageOut) → One (λ (o : Result Lengths Refusal × (List ℕ × List ℕ)). salvage_out o.0 o.1.0 o.1.1 ≡ d)
+one_salvage d a b p q = ?
 
 -- ---- a pen and its words, by the store that they stand for and its scan
 
@@ -125,41 +128,49 @@ one_pen p q ws vs e a b =
     let scan = a.scan ∙ ap (λ (s : Store). scanned start (kept s)) e ∙ sym b.scan in
     ap₂ (λ (s : Store) (c : Scan). (record { oldest = s.oldest; used = s.used; scan = c }, s.words)) e scan
 
-one_kept : (d : Store) → One (λ (o : Pen × List ℕ). (store_at o.1 o.0 ≡ d) × Aligned o.1 o.0)
-one_kept d a b p q = one_pen a.0 b.0 a.1 b.1 (p.0 ∙ sym q.0) p.1 q.1
+one_kept : (d : Store) → One (λ (o : Unit {0} × (Pen × List ℕ)). (store_at o.1.1 o.1.0 ≡ d) × Aligned o.1.1 o.1.0)
+one_kept d a b p q = ap (λ (s : Pen × List ℕ). (tt, s)) (one_pen a.1.0 b.1.0 a.1.1 b.1.1 (p.0 ∙ sym q.0) p.1 q.1)
 
-one_followed : (f : Follower) (d : Store) → One (λ (o : Followed × List ℕ). (o.0.follower ≡ f) × (store_at o.1 o.0.pen ≡ d) × Aligned o.1 o.0.pen)
+one_followed : (f : Follower) (d : Store)
+    → One (λ (o : Unit {0} × (Follower × (List ℕ × Pen))). (o.1.0 ≡ f) × (store_at o.1.1.0 o.1.1.1 ≡ d) × Aligned o.1.1.0 o.1.1.1)
 one_followed f d a b p q =
-    ap₂ (λ (g : Follower) (s : Pen × List ℕ). (record { follower = g; pen = s.0 }, s.1)) (p.0 ∙ sym q.0)
-    (one_pen a.0.pen b.0.pen a.1 b.1 (p.1 ∙ sym q.1) p.2 q.2)
+    ap₂ (λ (g : Follower) (s : Pen × List ℕ). (tt, (g, (s.1, s.0)))) (p.0 ∙ sym q.0)
+    (one_pen a.1.1.1 b.1.1.1 a.1.1.0 b.1.1.0 (p.1 ∙ sym q.1) p.2 q.2)
+
+-- held codes, by what is believed and what was carried
+one_held : {A : Type 0} (d : A) (believed carried : List ℕ) → One (λ (o : A × Held). (o.0 ≡ d) × (o.1.believed ≡ believed) × (o.1.carried ≡ carried))
+one_held {A} d believed carried a b p q =
+    ap₂ (λ (x : A) (h : List ℕ × List ℕ). (x, record { carried = h.0; believed = h.1 })) (known d a.0 b.0 p.0 q.0)
+    (ap₂ (λ (x y : List ℕ). (x, y)) (known carried a.1.carried b.1.carried p.2 q.2) (known believed a.1.believed b.1.believed p.1 q.1))
 
 pub one_outcome : OneOutcome
 one_outcome =
     record {
       read = λ κs text. one_reading _;
       write = λ κs s buffer. one_written _;
-      check = λ s. told_known _;
+      check = λ κs s. told_known _;
       fresh = λ s. one_made _;
       block = λ κs board log rows. one_ran _;
-      is_sound = λ board. known _;
+      is_sound = λ κs board. known _;
       report = λ κs board buffer. one_report _;
       fresh_store = known _;
-      is_sound_store = λ store. known _;
+      is_sound_store = λ κs store. known _;
       read_out = λ κs store buffer. one_read_out _;
       beside = λ κs board store input log rows. one_beside _;
       salvage = λ κs first log salvaged changes. one_salvage _;
       opened = λ κs text. one_made _;
       run_blocks = λ κs board log rows. one_ran _;
-      report_length = λ board. known _;
+      report_length = λ κs board. known _;
       standard = known _;
-      settings_length = λ s. known _;
-      read_length = λ store. known _;
-      keep_if = λ κs a board store input log rows. bounded _ _;
+      settings_length = λ κs s. known _;
+      read_length = λ κs store. known _;
+      keep_if = λ κs a board store input log rows. filled_well _ _;
       put_answer = λ κs buffer a. laid_within _ _ _;
       put_block = λ κs buffer at block. laid_within _ _ _;
       number = λ a. known _;
-      is_done = λ a. known _;
-      refusal = λ κs done log room. told_known _;
+      refusal_number = λ r. known _;
+      is_done = is_ok_told;
+      test_block = λ κs done log room. told_known _;
       test_blocks = λ κs first log room. one_tested _;
       blocks = λ κs board log rows. one_ran _;
       read_line = λ κs text at head range. line_known _ at _ range;
@@ -170,16 +181,16 @@ one_outcome =
       put_keys = λ κs buffer at first values. laid _ _;
       line_length = λ n v. bounded _ _;
       lines_length = λ κs first values. bounded _ _;
-      range = λ κs lows highs n. between _ _ _;
-      fault = λ f. told_known _;
+      range = λ n. between _ _ _;
+      relations = λ κs s. told_known _;
       put_row = λ κs buffer row. filled _;
       pass = λ κs ring c x. filled _;
       code = λ carried believed now. bounded _ _;
       code_at = λ κs codes input. bounded _ _;
       keep = λ κs pen words c. one_kept _;
       crossed = λ κs f words pen orbit marker code first. one_followed _ _;
-      is_firm = λ κs carried believed. given _ _ _;
-      follow = λ κs carried believed firm codes. held _ _ _;
-      first_sight = λ κs turn table carried believed. given _ _ _;
-      next_sight = λ κs sight busy table slots clock calm carried believed log i. held _ _ _;
+      is_firm = λ κs held. given _ _ _;
+      follow = λ κs held firm codes. one_held _ _ _;
+      first_sight = λ κs turn kit held. given _ _ _;
+      next_sight = λ κs sight kit busy clock calm held rec. laid _ _;
     }
