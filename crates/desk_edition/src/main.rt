@@ -34,16 +34,16 @@ fn open_settings<R: io::Read>(file: &mut Option<R>) -> Opened
 }
 
 // The text at the front of a buffer that has room for every text, and how many bytes it has. Writing it is never refused here.
-fn lay_text(s: Settings, text: &mut [u8]) -> usize
-    requires { (Upgrading s) × (text_most ≤ length text.old) }
+fn lay_text(s: &Settings, text: &mut [u8]) -> usize
+    requires { (Upgrading s.now) × (text_most ≤ length text.old) }
     ensures { (result ≤ length text.new) × (OfSomeText (take result text.new)) }
 {
-    editions::write_text(s, text);
+    let _ = editions::write_text(s, text);
     editions::text_length(s)
 }
 
-fn print_text<W: Write>(out: &mut W, s: Settings) -> io::Result<()>
-    requires { Upgrading s }
+fn print_text<W: Write>(out: &mut W, s: &Settings) -> io::Result<()>
+    requires { Upgrading s.now }
 {
     let mut text = [0u8; 4096];
     let n = lay_text(s, &mut text);
@@ -57,5 +57,5 @@ fn main(rt: HostRuntime) -> ExitCode {
     if ending::is_over(&rt, b"board.set", opened.failed, read.answer) {
         return ExitCode::FAILURE;
     }
-    ending::finish(&rt, print_text(&mut io::writer(&rt), read.settings))
+    ending::finish(&rt, print_text(&mut io::writer(&rt), &read.settings))
 }

@@ -7,7 +7,7 @@ use std::process::ExitCode;
 fn main(rt: HostRuntime) -> ExitCode {
     let mut text = [0u8; 4096];
     let s = Settings::standard();
-    editions::write_text(s, &mut text);
-    let n = editions::text_length(s);
+    let _ = editions::write_text(&s, &mut text);
+    let n = editions::text_length(&s);
     ending::finish(&rt, rt.write_all(&text[..n]))
 }

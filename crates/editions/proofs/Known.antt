@@ -33,31 +33,20 @@ pub record Known (e : ℕ) : Type 0 where
   pub laid : (ns : List ℕ) → (laid_out e ns).values ≡ tabulate (λ n. get_or ns (source_of e n) 0) 0 147
   pub ranges : tabulate (λ n. get_or (ranges_of (table_of e)) (source_of e n) nowhere) 0 147 ≡ ranges_of value_lines
 
-first : Known 1
-unfolding table_of lines value_lines all_b first_not tabulate sources laid_out
-first =
-    record { long = refl; some = omega arith; most = omega arith; inside = refl; entries = refl; good = refl; given = refl; laid = λ ns. refl; ranges = refl }
-
-second : Known 2
-unfolding table_of lines value_lines all_b first_not tabulate sources laid_out
-second =
-    record { long = refl; some = omega arith; most = omega arith; inside = refl; entries = refl; good = refl; given = refl; laid = λ ns. refl; ranges = refl }
-
-third : Known 3
-unfolding table_of lines value_lines all_b first_not tabulate sources laid_out
-third =
-    record { long = refl; some = omega arith; most = omega arith; inside = refl; entries = refl; good = refl; given = refl; laid = λ ns. refl; ranges = refl }
-
 pub known_edition : (e : Edition) → Known (number_of e)
-known_edition First = first
-known_edition Second = second
-known_edition Third = third
+unfolding table_of lines value_lines all_b first_not tabulate sources laid_out
+known_edition First =
+    record { long = refl; some = omega arith; most = omega arith; inside = refl; entries = refl; good = refl; given = refl; laid = λ ns. refl; ranges = refl }
+known_edition Second =
+    record { long = refl; some = omega arith; most = omega arith; inside = refl; entries = refl; good = refl; given = refl; laid = λ ns. refl; ranges = refl }
+known_edition Third =
+    record { long = refl; some = omega arith; most = omega arith; inside = refl; entries = refl; good = refl; given = refl; laid = λ ns. refl; ranges = refl }
 
 pub known : (e : ℕ) → 0 < e → e ≤ newest → Known e
 known zero some most = absurd (omega arith)
-known (suc zero) some most = first
-known (suc (suc zero)) some most = second
-known (suc (suc (suc zero))) some most = third
+known (suc zero) some most = known_edition First
+known (suc (suc zero)) some most = known_edition Second
+known (suc (suc (suc zero))) some most = known_edition Third
 known (suc (suc (suc (suc e)))) some most = absurd (omega arith)
 
 module _ (e : ℕ) (k : Known e) (n : ℕ) where

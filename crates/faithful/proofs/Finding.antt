@@ -1,20 +1,15 @@
 -- What the list says was there was there, in rising order and none twice.
 -- By induction on the bytes of a part and on the parts, each list kept between the place where it begins and the place where it ends.
 use mathlib.Core.Path.{◌≡◌, refl, sym}
-use mathlib.Core.Logic.{⊎_elim}
-use mathlib.Core.Bool.{true, false}
 use mathlib.Core.List.{List, [], ◌∷◌, ◌++◌}
 use Prim.Native.Nat.{ℕ, zero, suc, ◌+◌, ◌*◌, ◌≤◌, ◌<◌}
 use native.Mathlib.Omega.{arith}
-use borrow.Author.Tests.{eqb-false}
-use lib.Dec.{eqb}
 use lib.ListN.{length, get_or, drop, length-take, length-drop}
-use Rattle.laws.proofs.Tests.{either}
 use Rattle.records.specs.Records.{rec_at}
 use Rattle.records.proofs.Laws.{rec_byte}
-use Rattle.salvage.specs.Mending.{parts_in, is_kept, mend}
+use Rattle.salvage.specs.Mending.{parts_in}
 use Rattle.salvage.specs.Changes.{Change, change_at, changes_to, changes_of, changes_over, changes_in}
-use Rattle.salvage.proofs.Laws.{kept_whole, byte_same, byte_other, entries_kept, entries_dropped}
+use Rattle.salvage.proofs.Laws.{kept_whole, entry_has, entries_have}
 use Rattle.faithful.specs.Doing.{AllFound, place_of, Rising}
 
 -- ---- what was there
@@ -26,13 +21,8 @@ found_append first log (c ∷ cs) ds p q = (p.0, found_append first log cs ds p.
 module _ (first : ℕ) (log : List ℕ) (i : ℕ) where
   byte_found : (kind k : ℕ) → k < 24 → 24 * i + k < length log → AllFound first log (change_at (first + i) kind k (get_or (rec_at log i) k 0))
   byte_found kind k h inside =
-      let b = get_or (rec_at log i) k 0 in
-      ⊎_elim
-      (λ (e : eqb (mend kind k b) b ≡ true). rw (byte_same (first + i) kind k b e) tt)
-      (λ (e : eqb (mend kind k b) b ≡ false).
-      rw (byte_other (first + i) kind k b e)
-      (record { i = i; number = refl; byte = h; inside = inside; was = sym (rec_byte log i k h); moves = eqb-false _ _ e }, tt))
-      (either (eqb (mend kind k b) b))
+      entry_has (AllFound first log) (first + i) kind k (get_or (rec_at log i) k 0) (λ e. tt)
+      (λ e. (record { i = i; number = refl; byte = h; inside = inside; was = sym (rec_byte log i k h); moves = e }, tt))
 
   bytes_found : (k : ℕ) → k ≤ 24 → 24 * i + k ≤ length log → AllFound first log (changes_to k (first + i) (rec_at log i))
   unfolding changes_to
@@ -45,12 +35,8 @@ module _ (first : ℕ) (log : List ℕ) (i : ℕ) where
 
   part_found : i < parts_in log → AllFound first log (changes_of (first + i) (rec_at log i))
   part_found h =
-      ⊎_elim
-      (λ (e : is_kept (rec_at log i) ≡ true). rw (entries_kept (first + i) (rec_at log i) e) (bytes_found 24 (omega arith) (whole_inside (kept_whole (rec_at log i) e))))
-      (λ (e : is_kept (rec_at log i) ≡ false).
-      rw (entries_dropped (first + i) (rec_at log i) e)
-      (record { i = i; number = refl; byte = omega arith; inside = omega arith; was = sym (rec_byte log i 0 (omega arith)); moves = tt }, tt))
-      (either (is_kept (rec_at log i)))
+      entries_have (AllFound first log) (first + i) (rec_at log i) (λ e. bytes_found 24 (omega arith) (whole_inside (kept_whole (rec_at log i) e)))
+      (λ e. (record { i = i; number = refl; byte = omega arith; inside = omega arith; was = sym (rec_byte log i 0 (omega arith)); moves = tt }, tt))
 
 parts_found : (first : ℕ) (log : List ℕ) (n : ℕ) → n ≤ parts_in log → AllFound first log (changes_over n first log)
 unfolding changes_over
@@ -82,11 +68,7 @@ between_append from seam to (c ∷ cs) ds p q = (p.0, between_append (suc (place
 
 module _ (n : ℕ) (part : List ℕ) where
   byte_between : (kind k b : ℕ) → Between (24 * n + k) (24 * n + suc k) (change_at n kind k b)
-  byte_between kind k b =
-      ⊎_elim
-      (λ (e : eqb (mend kind k b) b ≡ true). rw (byte_same n kind k b e) (omega arith))
-      (λ (e : eqb (mend kind k b) b ≡ false). rw (byte_other n kind k b e) (omega arith, omega arith))
-      (either (eqb (mend kind k b) b))
+  byte_between kind k b = entry_has (Between (24 * n + k) (24 * n + suc k)) n kind k b (λ e. omega arith) (λ e. (omega arith, omega arith))
 
   bytes_between : (k : ℕ) → Between (24 * n) (24 * n + k) (changes_to k n part)
   unfolding changes_to
@@ -95,11 +77,7 @@ module _ (n : ℕ) (part : List ℕ) where
       between_append (24 * n) (24 * n + k) (24 * n + suc k) (changes_to k n part) _ (bytes_between k) (byte_between (get_or part 0 0) k (get_or part k 0))
 
   part_between : Between (24 * n) (24 * n + 24) (changes_of n part)
-  part_between =
-      ⊎_elim
-      (λ (e : is_kept part ≡ true). rw (entries_kept n part e) (bytes_between 24))
-      (λ (e : is_kept part ≡ false). rw (entries_dropped n part e) (omega arith, omega arith))
-      (either (is_kept part))
+  part_between = entries_have (Between (24 * n) (24 * n + 24)) n part (λ e. bytes_between 24) (λ e. (omega arith, omega arith))
 
 parts_between : (n first : ℕ) (log : List ℕ) → Between (24 * first) (24 * (first + n)) (changes_over n first log)
 unfolding changes_over

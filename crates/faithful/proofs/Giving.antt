@@ -6,7 +6,7 @@ use mathlib.Core.Bool.{Bool, true, false, ◌&&◌, ◌||◌, and-false, or-fals
 use mathlib.Core.List.{List, [], ◌∷◌, ◌++◌}
 use Prim.Native.Nat.{ℕ, zero, suc, ◌+◌, ◌≤◌, ◌<◌}
 use native.Mathlib.Omega.{arith}
-use borrow.Author.Tests.{eq-eqb, ne_eqb, eqb-true}
+use borrow.Author.Tests.{eq-eqb, ne_eqb}
 use lib.Dec.{eqb}
 use lib.ListN.{length, get_or}
 use Rattle.laws.proofs.Tests.{either, lt_or_ge}
@@ -14,7 +14,7 @@ use Rattle.laws.proofs.Maps.{map_is}
 use Rattle.records.specs.Records.{rec_at}
 use Rattle.salvage.specs.Mending.{parts_in, is_kept, mend, mended, salvaged_part, salvaged_parts, salvaged_log}
 use Rattle.salvage.specs.Changes.{Change, mends, drops, change_at, changes_to, changes_of, changes_over, changes_in}
-use Rattle.salvage.proofs.Laws.{kept_whole, mended_long, part_kept, part_dropped, byte_same, byte_other, entries_kept, entries_dropped}
+use Rattle.salvage.proofs.Laws.{kept_whole, mended_long, part_kept, part_dropped, entry_has, entries_have, entries_kept, entries_dropped}
 use Rattle.faithful.specs.Doing.{byte_after, is_dropped, part_after, parts_after, log_after}
 use Rattle.faithful.proofs.Mending.{mended_byte}
 
@@ -41,18 +41,10 @@ spares_append cs ds n k p q b = after_append cs ds n k b ∙ q (byte_after cs n 
 
 -- an entry of another record, or for another byte
 byte_spares : (m kind j c n k : ℕ) → eqb m n && eqb j k ≡ false → Spares (change_at m kind j c) n k
-byte_spares m kind j c n k other b =
-    ⊎_elim
-    (λ (e : eqb (mend kind j c) c ≡ true). rw (byte_same m kind j c e))
-    (λ (e : eqb (mend kind j c) c ≡ false). rw (byte_other m kind j c e, other))
-    (either (eqb (mend kind j c) c))
+byte_spares m kind j c n k other b = entry_has (λ cs. byte_after cs n k b ≡ b) m kind j c (λ e. refl) (λ e. rw other)
 
 byte_keeps : (m kind j c n : ℕ) → is_dropped (change_at m kind j c) n ≡ false
-byte_keeps m kind j c n =
-    ⊎_elim
-    (λ (e : eqb (mend kind j c) c ≡ true). rw (byte_same m kind j c e))
-    (λ (e : eqb (mend kind j c) c ≡ false). rw (byte_other m kind j c e))
-    (either (eqb (mend kind j c) c))
+byte_keeps m kind j c n = entry_has (λ cs. is_dropped cs n ≡ false) m kind j c (λ e. refl) (λ e. refl)
 
 module _ (m : ℕ) (rec : List ℕ) where
   bytes_keep : (j n : ℕ) → is_dropped (changes_to j m rec) n ≡ false
@@ -81,10 +73,7 @@ module _ (m : ℕ) (rec : List ℕ) where
   -- a byte's own entry makes it its mend
   byte_mends : (kind k b : ℕ) → byte_after (change_at m kind k b) m k b ≡ mend kind k b
   byte_mends kind k b =
-      ⊎_elim
-      (λ (e : eqb (mend kind k b) b ≡ true). rw (byte_same m kind k b e) (sym (eqb-true _ _ e)))
-      (λ (e : eqb (mend kind k b) b ≡ false). rw (byte_other m kind k b e, eq-eqb m m refl, eq-eqb k k refl))
-      (either (eqb (mend kind k b) b))
+      entry_has (λ cs. byte_after cs m k b ≡ mend kind k b) m kind k b (λ e. sym e) (λ e. rw (eq-eqb m m refl, eq-eqb k k refl))
 
   bytes_mend : (j k : ℕ) → k < j → byte_after (changes_to j m rec) m k (get_or rec k 0) ≡ mend (get_or rec 0 0) k (get_or rec k 0)
   unfolding changes_to
@@ -104,18 +93,10 @@ module _ (m : ℕ) (rec : List ℕ) where
 module _ (m : ℕ) (part : List ℕ) where
   -- do nothing to another
   entries_spare : (n : ℕ) → (m ≡ n → ⊥) → (k : ℕ) → Spares (changes_of m part) n k
-  entries_spare n other k b =
-      ⊎_elim
-      (λ (e : is_kept part ≡ true). rw (entries_kept m part e) (bytes_spare m part 24 n k other b))
-      (λ (e : is_kept part ≡ false). rw (entries_dropped m part e))
-      (either (is_kept part))
+  entries_spare n other k b = entries_have (λ cs. byte_after cs n k b ≡ b) m part (λ e. bytes_spare m part 24 n k other b) (λ e. refl)
 
   entries_keep : (n : ℕ) → (m ≡ n → ⊥) → is_dropped (changes_of m part) n ≡ false
-  entries_keep n other =
-      ⊎_elim
-      (λ (e : is_kept part ≡ true). rw (entries_kept m part e) (bytes_keep m part 24 n))
-      (λ (e : is_kept part ≡ false). rw (entries_dropped m part e, ne_eqb m n other))
-      (either (is_kept part))
+  entries_keep n other = entries_have (λ cs. is_dropped cs n ≡ false) m part (λ e. bytes_keep m part 24 n) (λ e. rw (ne_eqb m n other))
 
 -- what two lists do to record n is the same
 record Alike (cs ds : List Change) (n : ℕ) : Type 0 where

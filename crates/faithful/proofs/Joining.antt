@@ -2,11 +2,12 @@
 -- Its records are those of the first piece, then those of the second; the rest by induction on the parts.
 use mathlib.Core.Path.{◌≡◌, refl, sym}
 use mathlib.Core.Logic.{⊎_elim}
-use mathlib.Core.List.{List, [], ◌∷◌, ◌++◌, append-nil, append_assoc}
+use mathlib.Core.List.{List, [], ◌++◌, append-nil, append_assoc}
 use Prim.Native.Nat.{ℕ, zero, suc, ◌+◌, ◌*◌, ◌/◌, ◌%◌, ◌≤◌, ◌<◌}
 use native.Mathlib.Nat.{add-zero, add-suc, add_assoc}
 use native.Mathlib.Omega.{arith}
 use lib.ListN.{length, drop, length-append}
+use Rattle.std.proofs.lemmas.List.{nil_from_length}
 use Rattle.laws.proofs.Tests.{lt_or_ge}
 use Rattle.records.specs.Refusal.{records_in}
 use Rattle.records.proofs.Laws.{rec_cut, rec_first, rest_left}
@@ -60,16 +61,12 @@ no_changes : (first : ℕ) → changes_in first [] ≡ []
 unfolding changes_over
 no_changes first = refl
 
-empty : (l : List ℕ) → length l ≤ 0 → l ≡ []
-empty [] h = refl
-empty (x ∷ l) h = absurd (omega arith)
-
 pub joined : (first : ℕ) (a b : List ℕ) → (0 < length b → length a % 24 ≡ 0)
     → (salvaged_log (a ++ b) ≡ salvaged_log a ++ salvaged_log b) × (changes_in first (a ++ b) ≡ changes_in first a ++ changes_in (first + length a / 24) b)
 joined first a b between =
     ⊎_elim
     (λ (h : 0 < length b). (logs_joined a b (between h), changes_joined a b (between h) first))
     (λ (h : length b ≤ 0).
-    let none = empty b h in
+    let none = nil_from_length b (omega arith) in
     (rw (none, append-nil a, no_log) (sym (append-nil (salvaged_log a))), rw (none, append-nil a, no_changes (first + length a / 24)) (sym (append-nil (changes_in first a)))))
     (lt_or_ge 0 (length b))

@@ -4,8 +4,8 @@ use mathlib.Core.Path.{◌≡◌, refl, ap, ap₂, sym, ◌∙◌}
 use mathlib.Core.List.{List, [], ◌∷◌, ◌++◌, append_assoc}
 use Prim.Native.Nat.{ℕ, zero, suc, ◌+◌, ◌^◌, ◌<◌}
 use native.Mathlib.Omega.{arith}
-use lib.ListN.{length, drop, length-append}
-use lib.Seq.{drop-append_seam}
+use lib.ListN.{length, length-append}
+use Rattle.std.proofs.lemmas.List.{append_cancel_left}
 use Rattle.text.specs.Bytes.{bytes}
 use Rattle.text.specs.Decimal.{decimal}
 use Rattle.text.specs.Number.{value, none, number}
@@ -35,16 +35,12 @@ one_number m n s t e =
     let same : value m s ≡ value n t = sym (reads m n s) ∙ ap₂ number turn e ∙ reads n m t in
     (cc, cc)
 
--- what stands after a known text
-after : (h s t : List ℕ) → h ++ s ≡ h ++ t → s ≡ t
-after h s t e = sym (drop-append_seam h s) ∙ ap (drop (length h)) e ∙ drop-append_seam h t
-
 line_ends : (h : List ℕ) (n : ℕ) (t : List ℕ) → line_text h n ++ t ≡ h ++ (decimal n ++ (10 ∷ t))
 unfolding line_text
 line_ends h n t = rw (append_assoc h (decimal n ++ (10 ∷ [])) t, append_assoc (decimal n) (10 ∷ []) t)
 
 one_line : (h : List ℕ) (m n : ℕ) (s t : List ℕ) → line_text h m ++ s ≡ line_text h n ++ t → (m ≡ n) × (s ≡ t)
-one_line h m n s t e = one_number m n s t (after h _ _ (sym (line_ends h m s) ∙ e ∙ line_ends h n t))
+one_line h m n s t e = one_number m n s t (append_cancel_left h _ _ (sym (line_ends h m s) ∙ e ∙ line_ends h n t))
 
 -- ---- an entry
 
@@ -64,7 +60,7 @@ one_place n k b m j c s t e =
 not_drop : (n : ℕ) (s t : List ℕ) → line_text (bytes "now=") n ++ s ≡ (bytes "now=drop" ++ (10 ∷ [])) ++ t → ⊥
 unfolding bytes number
 not_drop n s t e =
-    let digits = after (bytes "now=") _ _ (sym (line_ends (bytes "now=") n s) ∙ e) in
+    let digits = append_cancel_left (bytes "now=") _ _ (sym (line_ends (bytes "now=") n s) ∙ e) in
     let no : value n s ≡ none = sym (reads n 0 s) ∙ ap (number (suc (n + 0))) digits in
     let z : ◌≡◌ {A = ℕ} 0 1 = cc in
     omega arith
@@ -90,7 +86,7 @@ one_entry (drops n b) (mends m j c z) s t e =
     absurd (not_drop z t s (sym place.3))
 one_entry (drops n b) (drops m c) s t e =
     let place = one_place n 0 b m 0 c _ _ (sym (drop_ends n b s) ∙ e ∙ drop_ends m c t) in
-    (cc, after (bytes "now=drop" ++ (10 ∷ [])) s t place.3)
+    (cc, append_cancel_left (bytes "now=drop" ++ (10 ∷ [])) s t place.3)
 
 -- ---- the list
 

@@ -7,7 +7,6 @@ use mathlib.Core.List.{List, []}
 use Prim.Native.Nat.{ℕ, zero, suc, ◌+◌, ◌*◌, ◌≤◌, ◌<◌}
 use native.Mathlib.Omega.{arith}
 use borrow.Author.Tests.{le-leb}
-use lib.Dec.{eqb}
 use lib.ListN.{length, get_or, take, length-append, length-take}
 use lib.Seq.{take-add}
 use Rattle.laws.proofs.Tests.{either}
@@ -16,7 +15,7 @@ use Rattle.records.proofs.Laws.{rec_byte}
 use Rattle.salvage.specs.Mending.{parts_in, is_kept, mend, salvaged_part, salvaged_parts, salvaged_log}
 use Rattle.salvage.specs.Changes.{mends, drops, change_at, changes_to, changes_of, changes_over, changes_in, list_text}
 use Rattle.salvage.specs.Salvage.{MOST, salvage_of}
-use Rattle.salvage.proofs.Laws.{mended_long, part_kept, part_dropped, text_append, text_one, byte_same, byte_other, entries_kept, entries_dropped, place_most, mend_long, new_most, drop_long}
+use Rattle.salvage.proofs.Laws.{mended_long, part_kept, part_dropped, text_append, text_one, entry_has, entries_have, place_most, mend_long, new_most, drop_long}
 use Rattle.faithful.specs.Faithful.{RoomEnough}
 use Rattle.faithful.proofs.Mending.{mend_most}
 
@@ -49,12 +48,8 @@ no_text = omega arith
 entry_most : (n kind k b : ℕ) → n < 18446744073709551616 → k < 24 → b < 256 → length (list_text (change_at n kind k b)) ≤ 52
 entry_most n kind k b hn hk hb =
     let m = mend kind k b in
-    ⊎_elim
-    (λ (e : eqb m b ≡ true). rw (byte_same n kind k b e) (omega (arith, no_text)))
-    (λ (e : eqb m b ≡ false).
-    rw (byte_other n kind k b e, text_one (mends n k b m))
-    (omega (arith, mend_long n k b m, place_most n k b hn hk hb, new_most m (omega (arith, mend_most kind k b)))))
-    (either (eqb m b))
+    entry_has (λ cs. length (list_text cs) ≤ 52) n kind k b (λ e. omega (arith, no_text))
+    (λ e. rw (text_one (mends n k b m)) (omega (arith, mend_long n k b m, place_most n k b hn hk hb, new_most m (omega (arith, hb, mend_most kind k b)))))
 
 module _ (n : ℕ) (part : List ℕ) (low : n < 18446744073709551616) (bytes : (k : ℕ) → k < 24 → get_or part k 0 < 256) where
   bytes_most : (k : ℕ) → k ≤ 24 → length (list_text (changes_to k n part)) ≤ 52 * k
@@ -67,13 +62,9 @@ module _ (n : ℕ) (part : List ℕ) (low : n < 18446744073709551616) (bytes : (
 
   entries_most : length (list_text (changes_of n part)) ≤ 1248
   entries_most =
-      ⊎_elim
-      (λ (e : is_kept part ≡ true). rw (entries_kept n part e) (bytes_most 24 (omega arith)))
-      (λ (e : is_kept part ≡ false).
       let was = get_or part 0 0 in
-      rw (entries_dropped n part e, text_one (drops n was))
-      (omega (arith, drop_long n was, place_most n 0 was low (omega arith) (bytes 0 (omega arith)))))
-      (either (is_kept part))
+      entries_have (λ cs. length (list_text cs) ≤ 1248) n part (λ e. bytes_most 24 (omega arith))
+      (λ e. rw (text_one (drops n was)) (omega (arith, drop_long n was, place_most n 0 was low (omega arith) (bytes 0 (omega arith)))))
 
 list_most : (n first : ℕ) (log : List ℕ) → ((k : ℕ) → get_or log k 0 < 256) → first + n ≤ MOST → length (list_text (changes_over n first log)) ≤ 1248 * n
 unfolding changes_over

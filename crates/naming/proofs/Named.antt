@@ -2,14 +2,14 @@
 -- Where the line is, is computed; for the slots, the partitions and the eight schedules by a test over all of them.
 use mathlib.Core.Path.{◌≡◌, refl, ap, sym, ◌∙◌}
 use mathlib.Core.Bool.{Bool}
-use mathlib.Core.List.{◌++◌}
+use mathlib.Core.List.{List, [], ◌∷◌, ◌++◌}
 use Prim.Native.Nat.{ℕ, ◌+◌, ◌*◌, ◌%◌, ◌<◌}
 use Prim.Native.String.{String}
 use native.Mathlib.Nat.{zero-add, add-zero}
 use native.Mathlib.Omega.{arith}
 use borrow.Author.Tests.{eqb-true}
-use lib.Dec.{eqb}
-use lib.ListN.{length, drop, length-take, length-drop}
+use lib.Dec.{eqb, lit<}
+use lib.ListN.{length, get_or, drop, length-take, length-drop}
 use lib.Seq.{ext_get_or, get_or-take, get_or-drop}
 use Rattle.laws.specs.Base.{tabulate, first_not}
 use Rattle.laws.proofs.First.{first_holds}
@@ -18,7 +18,7 @@ use Rattle.text.specs.Bytes.{bytes}
 use Rattle.text.specs.Decimal.{decimal, decimal_of}
 use Rattle.keys.specs.Settings.{value_lines, table_of}
 use Rattle.settings.specs.declared.Settings.{Settings}
-use Rattle.settings.specs.Names.{after, schedule_of, times_of}
+use Rattle.settings.specs.Names.{after, schedule_at, schedule_of, times_of}
 use Rattle.naming.specs.Named.{line_of, value_of, value_of_nth, at_key, at_value, at_values, Retired, NamedByKey}
 
 -- lines of one name, numbered from 0, stand one after the other from a place on
@@ -38,58 +38,21 @@ parts_stand : first_not (stands_at "part" 115) 32 0 ≡ 32
 unfolding line_of bytes decimal decimal_of value_lines first_not
 parts_stand = refl
 
--- the lines of one name of the eight schedules stand eleven apart
-abbrev at_stands : String → ℕ → ℕ → Bool
-at_stands name j k = eqb (line_of (at_key name k)) (27 + 11 * k + j)
+-- the names of a schedule's lines
+names : List String
+names =
+    "bc0" ∷ "te" ∷ "resync" ∷ "hard" ∷ "ec0" ∷ "oc0" ∷ "start" ∷ "stop" ∷ "gap" ∷ "wte" ∷ "cal" ∷ []
 
-module _ (name : String) (j : ℕ) (all : first_not (at_stands name j) 8 0 ≡ 8) (s : Settings) (k : ℕ) (low : k < 8) where
-  number_named : after s (27 + 11 * k + j) ≡ at_value s name k
-  unfolding at_value
-  number_named = ap (after s) (sym (eqb-true _ _ (first_holds (at_stands name j) 8 all k low)))
+-- those of the eight schedules stand one after the other, the lines of one name eleven apart
+abbrev at_stands : ℕ → ℕ → Bool
+at_stands j k = eqb (line_of (at_key (get_or names j "") k)) (27 + 11 * k + j)
 
-bc0_stand : first_not (at_stands "bc0" 0) 8 0 ≡ 8
-unfolding at_key line_of bytes decimal decimal_of value_lines first_not
-bc0_stand = refl
+abbrev all_stand : ℕ → Bool
+all_stand j = eqb (first_not (at_stands j) 8 0) 8
 
-te_stand : first_not (at_stands "te" 1) 8 0 ≡ 8
-unfolding at_key line_of bytes decimal decimal_of value_lines first_not
-te_stand = refl
-
-resync_stand : first_not (at_stands "resync" 2) 8 0 ≡ 8
-unfolding at_key line_of bytes decimal decimal_of value_lines first_not
-resync_stand = refl
-
-hard_stand : first_not (at_stands "hard" 3) 8 0 ≡ 8
-unfolding at_key line_of bytes decimal decimal_of value_lines first_not
-hard_stand = refl
-
-ec0_stand : first_not (at_stands "ec0" 4) 8 0 ≡ 8
-unfolding at_key line_of bytes decimal decimal_of value_lines first_not
-ec0_stand = refl
-
-oc0_stand : first_not (at_stands "oc0" 5) 8 0 ≡ 8
-unfolding at_key line_of bytes decimal decimal_of value_lines first_not
-oc0_stand = refl
-
-start_stand : first_not (at_stands "start" 6) 8 0 ≡ 8
-unfolding at_key line_of bytes decimal decimal_of value_lines first_not
-start_stand = refl
-
-stop_stand : first_not (at_stands "stop" 7) 8 0 ≡ 8
-unfolding at_key line_of bytes decimal decimal_of value_lines first_not
-stop_stand = refl
-
-gap_stand : first_not (at_stands "gap" 8) 8 0 ≡ 8
-unfolding at_key line_of bytes decimal decimal_of value_lines first_not
-gap_stand = refl
-
-wte_stand : first_not (at_stands "wte" 9) 8 0 ≡ 8
-unfolding at_key line_of bytes decimal decimal_of value_lines first_not
-wte_stand = refl
-
-cal_stand : first_not (at_stands "cal" 10) 8 0 ≡ 8
-unfolding at_key line_of bytes decimal decimal_of value_lines first_not
-cal_stand = refl
+schedules_stand : first_not all_stand 11 0 ≡ 11
+unfolding names at_key line_of bytes decimal decimal_of value_lines first_not
+schedules_stand = refl
 
 module _ (s : Settings) (k : ℕ) (low : k < 8) where
   own : k % 8 ≡ k
@@ -99,26 +62,20 @@ module _ (s : Settings) (k : ℕ) (low : k < 8) where
   abbrev number : ℕ → ℕ
   number j = after s (27 + 11 * k + j)
 
-  listed : at_values s k ≡ tabulate number 0 11
-  unfolding at_values tabulate
-  listed =
-      rw (← number_named "bc0" 0 bc0_stand s k low, ← number_named "te" 1 te_stand s k low, ← number_named "resync" 2 resync_stand s k low, ← number_named "hard" 3 hard_stand s k low, ← number_named "ec0" 4 ec0_stand s k low, ← number_named "oc0" 5 oc0_stand s k low, ← number_named "start" 6 start_stand s k low, ← number_named "stop" 7 stop_stand s k low, ← number_named "gap" 8 gap_stand s k low, ← number_named "wte" 9 wte_stand s k low, ← number_named "cal" 10 cal_stand s k low)
+  number_named : (j : ℕ) → j < 11 → at_value s (get_or names j "") k ≡ number j
+  unfolding at_value
+  number_named j h =
+      let all = eqb-true _ _ (first_holds all_stand 11 schedules_stand j h) in
+      ap (after s) (eqb-true _ _ (first_holds (at_stands j) 8 all k low))
 
-  schedule_named : schedule_of s k ≡ record {
-    bc0 = at_value s "bc0" k;
-    te = at_value s "te" k;
-    resync = at_value s "resync" k;
-    hard = at_value s "hard" k;
-    ec0 = at_value s "ec0" k;
-    oc0 = at_value s "oc0" k;
-    start = at_value s "start" k;
-    stop = at_value s "stop" k;
-    gap = at_value s "gap" k;
-    wte = at_value s "wte" k;
-    cal = at_value s "cal" k;
-  }
-  schedule_named =
-      rw (← number_named "bc0" 0 bc0_stand s k low, ← number_named "te" 1 te_stand s k low, ← number_named "resync" 2 resync_stand s k low, ← number_named "hard" 3 hard_stand s k low, ← number_named "ec0" 4 ec0_stand s k low, ← number_named "oc0" 5 oc0_stand s k low, ← number_named "start" 6 start_stand s k low, ← number_named "stop" 7 stop_stand s k low, ← number_named "gap" 8 gap_stand s k low, ← number_named "wte" 9 wte_stand s k low, ← number_named "cal" 10 cal_stand s k low, own, add-zero)
+  listed : at_values s k ≡ tabulate number 0 11
+  unfolding at_values tabulate names
+  listed =
+      rw (number_named 0 (lit< tt), number_named 1 (lit< tt), number_named 2 (lit< tt), number_named 3 (lit< tt), number_named 4 (lit< tt), number_named 5 (lit< tt), number_named 6 (lit< tt), number_named 7 (lit< tt), number_named 8 (lit< tt), number_named 9 (lit< tt), number_named 10 (lit< tt))
+
+  schedule_named : schedule_of s k ≡ schedule_at (at_values s k) 0
+  unfolding tabulate
+  schedule_named = rw own (rw add-zero at (ap (λ (l : List ℕ). schedule_at l 0) (sym listed)))
 
   times_named : length s.values ≡ 147 → times_of s k ≡ at_values s k
   times_named long =
@@ -130,7 +87,7 @@ module _ (s : Settings) (k : ℕ) (low : k < 8) where
       ∙ sym listed
 
 pub named_by_key : NamedByKey
-unfolding value_of line_of bytes value_lines first_not
+unfolding at_values value_of line_of bytes value_lines first_not
 named_by_key s long =
     record {
       orbit = refl;

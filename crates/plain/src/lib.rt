@@ -1,7 +1,7 @@
 // Functions on plain values that several crates call: as calls they leave a proof one path, where `&&` or `if` leave two.
 #![tactic(auto)]
 
-ghost use Rattle.std.specs.Prelude.{◌≡◌, ◌&&◌, min};
+ghost use Rattle.std.specs.Prelude.{◌≡◌, ◌&&◌};
 ghost use Rattle.laws.specs.Base.{one};
 
 pub fn both(a: bool, b: bool) -> bool
@@ -15,10 +15,4 @@ pub fn one(t: bool) -> u64
     ensures { result ≡ one t }
 {
     u64::from(t)
-}
-
-pub fn least(a: u64, b: u64) -> u64
-    ensures { result ≡ min a b }
-{
-    if a < b { a } else { b }
 }

@@ -11,7 +11,7 @@ use borrow.Author.Tests.{ltb-true, ltb-false, lt-ltb, le-ltb, lt-leb, le-leb}
 use lib.Dec.{eqb, leb, ltb}
 use lib.ListN.{length, get_or, take, drop}
 use lib.Seq.{drop-drop}
-use Rattle.std.specs.List.{list_all, list_any, position_or_len, position, count_by}
+use Rattle.std.specs.List.{list_any, position_or_len, position, count_by}
 use Rattle.std.specs.Simd.{first_chunks}
 use Rattle.std.proofs.Common.{Option, Some, None}
 use Rattle.std.proofs.lemmas.Bool.Decides.{nat_tests}
@@ -24,11 +24,6 @@ use Rattle.records.specs.Refusal.{records_in}
 use Rattle.records.proofs.Laws.{crossings_cut}
 
 -- ---- one record
-
-pub all_listed : {A : Type 0} (p : A → Bool) (l : List A) → list_all p l ≡ all_b p l
-unfolding all_b
-all_listed p [] = refl
-all_listed p (a ∷ l) = rw (all_listed p l)
 
 pub any_listed : (l : List ℕ) → list_any (leb 16) l ≡ not (all_b (λ b. ltb b 16) l)
 unfolding all_b

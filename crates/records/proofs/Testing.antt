@@ -15,9 +15,7 @@ use Rattle.std.specs.Iterator.Adapters.{enumerate_count}
 use Rattle.laws.specs.Base.{if}
 use Rattle.laws.proofs.Bools.{if_has}
 use Rattle.laws.proofs.Tests.{lt_or_ge}
-use Rattle.std.specs.Prelude.{Ok, Err, is_err}
-use Rattle.answer.specs.Told.{Told, Answer, told, succeeded, DONE}
-use Rattle.answer.proofs.Told.{refused}
+use Rattle.answer.specs.Told.{Told, succeeded, DONE}
 use Rattle.records.specs.Records.{rec_at, well, first_ill, crossings_in}
 use Rattle.records.specs.Refusal.{LIFETIME, records_in, refusal_of, Ready}
 use Rattle.records.specs.Support.Blocks.{block_count, block_in, TestedOut, tested_of}
@@ -67,16 +65,6 @@ module _ (done : ℕ) (log : List ℕ) (room : ℕ) where
 -- what a run of them asks of the part that is lent
 pub clear_formed : (done : ℕ) (log : List ℕ) (room m : ℕ) → Clear done log room m → first_ill m (take (24 * m) log) ≡ m
 clear_formed done log room m c = all_formed m (take (24 * m) log) (λ i h. rw (rec_start log (24 * m) i (omega arith)) (c.formed i h))
-
--- ---- what the code asks of an answer
-
-pub told_refused : (a : Answer) → true ≡ is_err a → succeeded (told a) ≡ false
-told_refused (Ok done) e = cc
-told_refused (Err r) e = refused r
-
-pub told_went : (a : Answer) → false ≡ is_err a → succeeded (told a) ≡ true
-told_went (Ok done) e = refl
-told_went (Err r) e = cc
 
 -- ---- the blocks
 

@@ -10,10 +10,11 @@ use borrow.Author.Tests.{le-leb, lt-leb}
 use lib.Dec.{ltb}
 use lib.ListN.{length, drop, get_or, length-append, drop_of_length-le}
 use lib.Seq.{drop-cons}
-use Rattle.answer.specs.declared.Answer.TheVariants.{Done, Board as Refused, Room}
+use Rattle.std.specs.Prelude.{Ok, Err}
+use Rattle.answer.specs.declared.Refusal.TheVariants.{Board as Refused, Room}
 use Rattle.text.specs.Bytes.{put}
 use Rattle.text.specs.Lines.{lines_text}
-use Rattle.text.proofs.Bytes.{put_append, put_front}
+use Rattle.text.proofs.Bytes.{put_append, put_front, put_nil}
 use Rattle.keys.specs.Keys.{keys, common_first, block_first}
 use Rattle.keys.proofs.Writing.{common_text, block_text_lem}
 use Rattle.settings.specs.declared.Settings.{Settings}
@@ -36,53 +37,57 @@ module _ (s : Settings) (k : ℕ) (p : Ptc) where
 
 -- ---- the blocks from k on
 
-abbrev pub Rest : Board → ℕ → List ℕ
-Rest b k = blocks_from b.settings k (drop k b.ptcs)
+abbrev pub Rest : Settings → List Ptc → ℕ → List ℕ
+Rest s ps k = blocks_from s k (drop k ps)
 
-module _ (b : Board) (k : ℕ) (d : Ptc) (more : k < length b.ptcs) where
+module _ (s : Settings) (ps : List Ptc) (k : ℕ) (d : Ptc) (more : k < length ps) where
   abbrev Block : List ℕ
-  Block = controller_text b.settings k (get_or b.ptcs k d)
+  Block = controller_text s k (get_or ps k d)
 
-  next : Rest b k ≡ Block ++ Rest b (k + 1)
+  next : Rest s ps k ≡ Block ++ Rest s ps (k + 1)
   unfolding blocks_from
-  next = rw (drop-cons b.ptcs k d more, add-one)
+  next = rw (drop-cons ps k d more, add-one)
 
-  pub rest_longer : length (Rest b k) ≡ length Block + length (Rest b (k + 1))
+  pub rest_longer : length (Rest s ps k) ≡ length Block + length (Rest s ps (k + 1))
   rest_longer = rw (next, length-append)
 
-  pub rest_laid : (o : List ℕ) (at : ℕ) → at + length Block ≤ length o → put o at (Rest b k) ≡ put (put o at Block) (at + length Block) (Rest b (k + 1))
+  pub rest_laid : (o : List ℕ) (at : ℕ) → at + length Block ≤ length o → put o at (Rest s ps k) ≡ put (put o at Block) (at + length Block) (Rest s ps (k + 1))
   rest_laid o at room = ap (put o at) next ∙ put_append o at _ _ room
 
-pub rest_none : (b : Board) (k : ℕ) → length b.ptcs ≤ k → Rest b k ≡ []
+pub rest_none : (s : Settings) (ps : List Ptc) (k : ℕ) → length ps ≤ k → Rest s ps k ≡ []
 unfolding blocks_from
-rest_none b k done = rw (drop_of_length-le b.ptcs done)
+rest_none s ps k done = rw (drop_of_length-le ps done)
 
 -- ---- the whole
 
 module _ (b : Board) (vs : List ℕ) (is : vs ≡ common_values b) where
-  parts : report_text b ≡ lines_text (drop common_first keys) vs ++ Rest b 0
+  parts : report_text b ≡ lines_text (drop common_first keys) vs ++ blocks_from b.settings 0 b.ptcs
   unfolding report_text
   parts = rw (is, common_text (common_values b) (omega arith))
 
-  pub text_longer : length (report_text b) ≡ length (lines_text (drop common_first keys) vs) + length (Rest b 0)
+  pub text_longer : length (report_text b) ≡ length (lines_text (drop common_first keys) vs) + length (blocks_from b.settings 0 b.ptcs)
   text_longer = rw (parts, length-append)
 
   pub text_laid : (o : List ℕ) → length (report_text b) ≤ length o
-      → put o 0 (report_text b) ≡ put (put o 0 (lines_text (drop common_first keys) vs)) (0 + length (lines_text (drop common_first keys) vs)) (Rest b 0)
+      → put o 0 (report_text b) ≡ put (put o 0 (lines_text (drop common_first keys) vs)) (0 + length (lines_text (drop common_first keys) vs)) (blocks_from b.settings 0 b.ptcs)
   text_laid o room = ap (put o 0) parts ∙ put_append o 0 _ _ (omega (arith, text_longer))
+
+pub ruleset block_by_block = (block_none, block_is, rest_longer, rest_laid, rest_none, text_longer, text_laid, put_nil)
 
 -- ---- what writing answers and leaves
 
 module _ (b : Board) (d : List ℕ) where
-  pub board_is : sound_board b ≡ false → report_out Refused d ≡ reported b d
+  pub board_is : sound_board b ≡ false → report_out (Err Refused) d ≡ reported b d
   unfolding reported report_answer
   board_is off = rw off
 
   module _ (ok : sound_board b ≡ true) (need : ℕ) (long : need ≡ length (report_text b)) where
-    pub room_is : length d < need → report_out (Room need) d ≡ reported b d
+    pub room_is : length d < need → report_out (Err (Room need)) d ≡ reported b d
     unfolding reported report_answer
     room_is h = rw (ok, ← long, lt-leb need (length d) h)
 
-    pub done_is : need ≤ length d → (e : List ℕ) → e ≡ put d 0 (report_text b) → report_out Done e ≡ reported b d
+    pub done_is : need ≤ length d → (e : List ℕ) → e ≡ put d 0 (report_text b) → report_out (Ok tt) e ≡ reported b d
     unfolding reported report_answer
     done_is h e laid = rw (ok, le-leb (length (report_text b)) (length d) (rw (← long) h), laid, put_front)
+
+pub ruleset written = (board_is, room_is, done_is)

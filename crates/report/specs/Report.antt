@@ -1,8 +1,7 @@
 -- Document 01, "Report": common lines, then a block for each controller with a slot above 0, rising. Refusals: BOARD, then ROOM.
 use Rattle.std.specs.Prelude.{ℕ, suc, List, [], ◌∷◌, ◌++◌, leb, ltb, length, drop}
 use Rattle.laws.specs.Base.{if}
-use Rattle.answer.specs.declared.Answer.{Answer}
-use Rattle.answer.specs.Told.{Told, told, succeeded, DONE, BOARD, ROOM}
+use Rattle.answer.specs.Told.{Told, Answer, told, succeeded, DONE, BOARD, ROOM}
 use Rattle.text.specs.Lines.{lines_text}
 use Rattle.keys.specs.Report.{common_keys, block_keys}
 use Rattle.settings.specs.declared.Settings.{Settings}

@@ -4,9 +4,9 @@
 ghost use Rattle.std.specs.Prelude.{◌≡◌, ◌+◌, ◌<◌, ◌≤◌, ltb, length};
 ghost use Rattle.text.specs.Bytes.{put};
 ghost use Rattle.settings.specs.Names.{slot_of};
-ghost use Rattle.report.specs.Report.{common_values, block_values, controller_text, report_text, report_out, reported};
+ghost use Rattle.report.specs.Report.{common_values, block_values, controller_text, blocks_from, report_text, report_out, reported};
 
-use answer::Answer;
+use answer::{Answer, Refusal};
 use board::Board;
 use ptc::Ptc;
 use settings::Settings;
@@ -16,24 +16,24 @@ const COMMON: usize = 160;
 
 const BLOCK: usize = 164;
 
-fn common_values(b: Board) -> [u64; 4]
-    ensures { result ≡ common_values b }
+fn common_values(b: &Board) -> [u64; 4]
+    ensures { result ≡ common_values b.now }
 {
     [
         b.clock.crossings,
         b.clock.orbits,
         b.clock.errors,
-        b.turn.holder as u64,
+        u64::from(b.turn.holder),
     ]
 }
 
-fn block_values(k: usize, p: Ptc) -> [u64; 17]
-    ensures { result ≡ block_values k p }
+fn block_values(k: usize, ptc: &Ptc) -> [u64; 17]
+    ensures { result ≡ block_values k ptc.now }
 {
-    let c = p.counts;
+    let c = &ptc.counts;
     [
         k as u64,
-        p.state as u64,
+        u64::from(ptc.state),
         c.requested,
         c.accepted,
         c.lost.state,
@@ -48,81 +48,95 @@ fn block_values(k: usize, p: Ptc) -> [u64; 17]
         c.cal.requested,
         c.cal.accepted,
         c.cal.lost,
-        p.events,
+        ptc.events,
     ]
 }
 
 // Only a controller with a slot has a block.
-fn has_block(s: Settings, k: usize) -> bool
+fn has_block(s: &Settings, k: usize) -> bool
     requires { k < 8 }
-    ensures { result ≡ ltb 0 (slot_of s k) }
+    ensures { result ≡ ltb 0 (slot_of s.now k) }
 {
     0 < s.slot(k)
 }
 
 // How long the block of a controller is.
-fn block_length(s: Settings, k: usize, p: Ptc) -> usize
+#[tactic(auto, using(crate::proofs::Laws::block_by_block))]
+fn block_length(s: &Settings, k: usize, ptc: &Ptc) -> usize
     requires { k < 8 }
-    ensures { (result ≡ length (controller_text s k p)) × (result ≤ 131072) }
+    ensures { (result ≡ length (controller_text s.now k ptc.now)) × (result ≤ 131072) }
 {
     if !has_block(s, k) {
         return 0;
     }
-    let values = block_values(k, p);
-    keys::lines_length(BLOCK, &values)
+    keys::lines_length(BLOCK, &block_values(k, ptc))
 }
 
 // Lays the block of a controller, and answers the place after it.
-fn put_block(out: &mut [u8], at: usize, s: Settings, k: usize, p: Ptc) -> usize
-    requires { (k < 8) × (at + length (controller_text s k p) ≤ length out.old) }
-    ensures { (result ≡ at + length (controller_text s k p)) × (out.new ≡ put out.old at (controller_text s k p)) }
+#[tactic(auto, using(crate::proofs::Laws::block_by_block))]
+fn put_block(out: &mut [u8], at: usize, s: &Settings, k: usize, ptc: &Ptc) -> usize
+    requires { (k < 8) × (at + length (controller_text s.now k ptc.now) ≤ length out.old) }
+    ensures { (result ≡ at + length (controller_text s.now k ptc.now)) × (out.new ≡ put out.old at (controller_text s.now k ptc.now)) }
 {
     if !has_block(s, k) {
         return at;
     }
-    let values = block_values(k, p);
-    keys::put_lines(out, at, BLOCK, &values)
+    keys::put_lines(out, at, BLOCK, &block_values(k, ptc))
 }
 
-pub fn text_length(b: Board) -> usize
-    ensures { result ≡ length (report_text b) }
+// How long the blocks of all eight are.
+#[tactic(auto, using(crate::proofs::Laws::block_by_block))]
+fn blocks_length(s: &Settings, ptcs: &[Ptc; 8]) -> usize
+    ensures { (result ≡ length (blocks_from s.now 0 ptcs.now)) × (result ≤ 1048576) }
 {
-    let common = common_values(b);
-    let mut sum = keys::lines_length(COMMON, &common);
-    let mut k = 0;
-    while k < 8 {
-        let p = b.ptcs[k];
-        sum += block_length(b.settings, k, p);
-        k += 1;
+    let mut sum = 0;
+    for (k, ptc) in ptcs.iter().enumerate() {
+        sum += block_length(s, k, ptc);
     }
     sum
 }
 
-fn put_text(b: Board, out: &mut [u8])
-    requires { length (report_text b) ≤ length out.old }
-    ensures { out.new ≡ put out.old 0 (report_text b) }
+// Lays them one behind the other.
+#[tactic(auto, using(crate::proofs::Laws::block_by_block))]
+fn put_blocks(out: &mut [u8], at: usize, s: &Settings, ptcs: &[Ptc; 8])
+    requires { at + length (blocks_from s.now 0 ptcs.now) ≤ length out.old }
+    ensures { out.new ≡ put out.old at (blocks_from s.now 0 ptcs.now) }
 {
-    let common = common_values(b);
-    let mut at = keys::put_lines(out, 0, COMMON, &common);
-    let mut k = 0;
-    while k < 8 {
-        let p = b.ptcs[k];
-        at = put_block(out, at, b.settings, k, p);
-        k += 1;
+    let mut place = at;
+    for (k, ptc) in ptcs.iter().enumerate() {
+        place = put_block(out, place, s, k, ptc);
     }
 }
 
-// BOARD, then ROOM with the bytes needed; a success writes exactly the report.
-pub fn write(b: Board, out: &mut [u8]) -> Answer
-    ensures { report_out result out.new ≡ reported b out.old }
+#[tactic(auto, using(crate::proofs::Laws::block_by_block))]
+pub fn text_length(board: &Board) -> usize
+    ensures { result ≡ length (report_text board.now) }
 {
-    if !b.is_sound() {
-        return Answer::Board;
+    let common = keys::lines_length(COMMON, &common_values(board));
+    common + blocks_length(&board.settings, &board.ptcs)
+}
+
+#[tactic(auto, using(crate::proofs::Laws::block_by_block))]
+fn put_text(board: &Board, out: &mut [u8])
+    requires { length (report_text board.now) ≤ length out.old }
+    ensures { out.new ≡ put out.old 0 (report_text board.now) }
+{
+    let at = keys::put_lines(out, 0, COMMON, &common_values(board));
+    put_blocks(out, at, &board.settings, &board.ptcs);
+}
+
+// BOARD, then ROOM with the bytes needed; a success writes exactly the report.
+#[tactic(auto, using(crate::proofs::Laws::written))]
+pub fn write(board: &Board, out: &mut [u8]) -> Answer
+    ensures { report_out result out.new ≡ reported board.now out.old }
+{
+    if !board.is_sound() {
+        return Err(Refusal::Board);
     }
-    let needed = text_length(b);
+    let needed = text_length(board);
     if out.len() < needed {
-        return Answer::Room(needed);
+        return Err(Refusal::Room(needed));
     }
-    put_text(b, out);
-    Answer::Done
+    put_text(board, out);
+    Ok(())
 }

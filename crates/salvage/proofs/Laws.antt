@@ -5,22 +5,28 @@ use mathlib.Core.Logic.{⊎_elim}
 use mathlib.Core.Bool.{true, false, ◌||◌}
 use mathlib.Core.List.{List, [], ◌∷◌, ◌++◌, append_assoc, append-nil}
 use Prim.Native.Nat.{ℕ, zero, suc, ◌+◌, ◌≤◌, ◌<◌}
+use native.Mathlib.Nat.{add-zero, zero-add, le_of_suc-le-suc, not-suc-le-zero}
+use denote.Param.Members.{Mut, Called}
+use Rattle.std.specs.Array.{IsFromFnResultFrom, IsFromFnResult}
 use native.Mathlib.Numerals.{add-one}
 use native.Mathlib.Omega.{arith}
-use borrow.Author.Tests.{eqb-true}
+use borrow.Author.Tests.{eqb-true, eqb-false}
 use lib.Dec.{eqb}
 use lib.ListN.{length, get_or, take, drop, length-append}
 use lib.Seq.{take-append_seam}
-use Rattle.laws.proofs.Bools.{both}
+use Rattle.laws.proofs.Bools.{both, if_has}
 use Rattle.laws.proofs.Tests.{lt_or_ge}
+use Rattle.laws.specs.Base.{map_i}
 use Rattle.laws.proofs.Over.{length-map_i}
-use Rattle.text.specs.Bytes.{bytes, put}
+use Rattle.laws.proofs.Maps.{map_is}
+use Rattle.text.specs.Bytes.{bytes}
 use Rattle.text.specs.Decimal.{decimal}
 use Rattle.text.specs.Lines.{line_text}
-use Rattle.text.proofs.Bytes.{put_append, put_front}
+use Rattle.text.proofs.Bytes.{put_nil, put_append, put_front}
 use Rattle.text.proofs.Decimal.{digits_within}
 use Rattle.text.proofs.Rows.{row_length}
 use Rattle.records.specs.Records.{rec_at, is_crossing}
+use Rattle.salvage.specs.Laid.{Laid}
 use Rattle.salvage.specs.Mending.{known_command, is_kept, mend, mended, salvaged_part, salvaged_parts}
 use Rattle.salvage.specs.Changes.{Change, mends, drops, change_at, changes_to, changes_of, changes_over, place_text, change_text, list_text}
 
@@ -42,20 +48,35 @@ pub part_dropped : (part : List ℕ) → is_kept part ≡ false → salvaged_par
 unfolding salvaged_part
 part_dropped part e = rw e
 
+-- what `array::from_fn` makes, where each call gives h of its place and leaves the closure as it was
+made : {F : Type 0} (g : Mut F (ℕ × Unit {0}) ℕ) (f : F) (h : ℕ → ℕ) → ((i y : ℕ) (q : F) → Called g f (i, tt) y q → (q ≡ f) × (y ≡ h i))
+    → (ys : List ℕ) (n i : ℕ) → IsFromFnResultFrom g f ys i n → (k : ℕ) → k < n → get_or ys (i + k) 0 ≡ h (i + k)
+made g f h calls ys zero i m k l = absurd (not-suc-le-zero l)
+made g f h calls ys (suc n) i m zero l = rw add-zero (m.2.1 0 ∙ (calls i m.1 m.0 m.3).1)
+made g f h calls ys (suc n) i m (suc k) l =
+    let same : m.0 ≡ f = (calls i m.1 m.0 m.3).0 in
+    let next : i + 1 + k ≡ i + suc k = omega arith in
+    rw next at (made g f h calls ys n (i + 1) (rw same at m.4) k (le_of_suc-le-suc l))
+
+pub made_map : {F : Type 0} (g : Mut F (ℕ × Unit {0}) ℕ) (f : F) (h : ℕ → ℕ → ℕ) (l ys : List ℕ) (n : ℕ) → length l ≡ n → IsFromFnResult g f ys n
+    → ((i y : ℕ) (q : F) → Called g f (i, tt) y q → (q ≡ f) × (y ≡ h i (get_or l i 0))) → ys ≡ map_i h 0 l
+made_map g f h l ys n long m calls =
+    sym (map_is h l 0 0 ys (omega (arith, m.long)) (λ k p. sym (rw zero-add at (made g f (λ k. h k (get_or l k 0)) calls ys n 0 m.each k (omega arith)))))
+
 -- ---- one part more of the salvaged log
+
+-- what only grows at its end never gets shorter
+pub grows : (f g : ℕ → List ℕ) → ((n : ℕ) → f (n + 1) ≡ f n ++ g n) → (i n : ℕ) → i ≤ n → length (f i) ≤ length (f n)
+grows f g next i zero h = let e : i ≡ 0 = omega arith in rw e (omega arith)
+grows f g next i (suc n) h =
+    ⊎_elim
+    (λ (l : i < suc n). rw (← add-one n, next n, length-append) (omega (arith, grows f g next i n (omega arith))))
+    (λ (l : suc n ≤ i). let e : i ≡ suc n = omega arith in rw e (omega arith))
+    (lt_or_ge i (suc n))
 
 pub parts_next : (n : ℕ) (log : List ℕ) → salvaged_parts (n + 1) log ≡ salvaged_parts n log ++ salvaged_part (rec_at log n)
 unfolding salvaged_parts
 parts_next n log = rw add-one
-
-pub parts_more : (i n : ℕ) (log : List ℕ) → i ≤ n → length (salvaged_parts i log) ≤ length (salvaged_parts n log)
-unfolding salvaged_parts
-parts_more i zero log h = let e : i ≡ 0 = omega arith in rw e (omega arith)
-parts_more i (suc n) log h =
-    ⊎_elim
-    (λ (l : i < suc n). omega (arith, parts_more i n log (omega arith), length-append (salvaged_parts n log) (salvaged_part (rec_at log n))))
-    (λ (l : suc n ≤ i). let e : i ≡ suc n = omega arith in rw e (omega arith))
-    (lt_or_ge i (suc n))
 
 -- ---- the list's text
 
@@ -77,28 +98,17 @@ pub list_next : (n first : ℕ) (log : List ℕ) → list_text (changes_over (n 
 unfolding changes_over
 list_next n first log = rw add-one (text_append (changes_over n first log) _)
 
-pub list_more : (i n first : ℕ) (log : List ℕ) → i ≤ n → length (list_text (changes_over i first log)) ≤ length (list_text (changes_over n first log))
-unfolding changes_over
-list_more i zero first log h = let e : i ≡ 0 = omega arith in rw e (omega arith)
-list_more i (suc n) first log h =
-    ⊎_elim
-    (λ (l : i < suc n).
-    rw (text_append (changes_over n first log) (changes_of (first + n) (rec_at log n)))
-    (omega (arith, list_more i n first log (omega arith), length-append (list_text (changes_over n first log)) (list_text (changes_of (first + n) (rec_at log n))))))
-    (λ (l : suc n ≤ i). let e : i ≡ suc n = omega arith in rw e (omega arith))
-    (lt_or_ge i (suc n))
+-- nothing laid, and what is laid behind what was laid before
+pub laid_none : (d : List ℕ) (at : ℕ) → Laid d at [] at d
+laid_none d at = (omega arith, sym (put_nil d at))
 
--- what is laid behind what was laid before
-pub laid_on : (d : List ℕ) (at : ℕ) (x y : List ℕ) (p : ℕ) (d₁ d₂ : List ℕ) → at + length x ≤ length d → p ≡ at + length x → d₁ ≡ put d at x → d₂ ≡ put d₁ p y → d₂ ≡ put d at (x ++ y)
-laid_on d at x y p d₁ d₂ room p_is d₁_is d₂_is = d₂_is ∙ rw (p_is, d₁_is) (sym (put_append d at x y room))
+pub laid_on : (d : List ℕ) (at : ℕ) (x y : List ℕ) (p q : ℕ) (d₁ d₂ : List ℕ) → at + length x ≤ length d → Laid d at x p d₁ → Laid d₁ p y q d₂ → Laid d at (x ++ y) q d₂
+laid_on d at x y p q d₁ d₂ room e f =
+    (omega (arith, e.0, f.0, length-append x y), f.1 ∙ rw (e.0, e.1) (sym (put_append d at x y room)))
 
--- from the front on
-pub front_on : (d x y : List ℕ) (p : ℕ) (d₁ d₂ : List ℕ) → length x ≤ length d → p ≡ length x → d₁ ≡ put d 0 x → d₂ ≡ put d₁ p y → d₂ ≡ put d 0 (x ++ y)
-front_on d x y p d₁ d₂ room p_is = laid_on d 0 x y p d₁ d₂ (omega arith) (omega arith)
-
--- and back from there
-pub front_is : (d s e : List ℕ) (n : ℕ) → n ≡ length s → e ≡ put d 0 s → take n e ≡ s
-front_is d s e n long e_is = rw (long, e_is, put_front d s) (take-append_seam s (drop (length s) d))
+-- what was laid at the front, back from there
+pub front_is : (d s : List ℕ) (n : ℕ) (e : List ℕ) → Laid d 0 s n e → take n e ≡ s
+front_is d s n e laid = rw (laid.0, laid.1, put_front d s, zero-add) (take-append_seam s (drop (length s) d))
 
 -- ---- which entries a part has
 
@@ -110,6 +120,12 @@ pub byte_other : (n kind k b : ℕ) → eqb (mend kind k b) b ≡ false → chan
 unfolding change_at
 byte_other n kind k b e = rw e
 
+-- what holds with no entry and with one holds of a byte's entries
+pub entry_has : (P : List Change → Type 0) (n kind k b : ℕ) → (mend kind k b ≡ b → P []) → ((mend kind k b ≡ b → ⊥) → P (mends n k b (mend kind k b) ∷ []))
+    → P (change_at n kind k b)
+unfolding change_at
+entry_has P n kind k b none one = if_has P (eqb (mend kind k b) b) _ _ (λ e. none (eqb-true _ _ e)) (λ e. one (eqb-false _ _ e))
+
 pub entries_kept : (n : ℕ) (part : List ℕ) → is_kept part ≡ true → changes_of n part ≡ changes_to 24 n part
 unfolding changes_of
 entries_kept n part e = rw e
@@ -117,6 +133,12 @@ entries_kept n part e = rw e
 pub entries_dropped : (n : ℕ) (part : List ℕ) → is_kept part ≡ false → changes_of n part ≡ drops n (get_or part 0 0) ∷ []
 unfolding changes_of
 entries_dropped n part e = rw e
+
+-- and what holds of a kept part's entries and of the one that drops it holds of a part's
+pub entries_have : (P : List Change → Type 0) (n : ℕ) (part : List ℕ) → (is_kept part ≡ true → P (changes_to 24 n part)) → (is_kept part ≡ false → P (drops n (get_or part 0 0) ∷ []))
+    → P (changes_of n part)
+unfolding changes_of
+entries_have P n part kept dropped = if_has P (is_kept part) _ _ kept dropped
 
 -- ---- how long an entry may be
 

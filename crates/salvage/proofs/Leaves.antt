@@ -4,6 +4,7 @@ use mathlib.Core.Path.{◌≡◌, refl, sym, ◌∙◌}
 use mathlib.Core.Bool.{true, false, false≢true}
 use mathlib.Core.List.{List}
 use Prim.Native.Nat.{ℕ, ◌+◌, ◌≤◌, min}
+use native.Mathlib.Nat.{zero-add}
 use native.Mathlib.Omega.{arith}
 use borrow.Author.Tests.{leb-true}
 use lib.Dec.{leb}
@@ -44,7 +45,7 @@ module _ (first : ℕ) (log salvaged changes : List ℕ) where
   accepted_leaves =
       each (λ (o : SalvageOut). succeeded o.answer ≡ true → (first + parts_in log ≤ MOST) × (take o.log o.salvaged ≡ out) × (take o.list o.changes ≡ list))
       (λ a no yes. absurd (false≢true (sym no ∙ yes)))
-      (λ numbers log_room list_room yes. (numbers, front_is salvaged out _ _ refl refl, front_is changes list _ _ refl refl))
+      (λ numbers log_room list_room yes. (numbers, front_is salvaged out _ _ (sym (zero-add _), refl), front_is changes list _ _ (sym (zero-add _), refl)))
 
   pub written_within : ((salvage_of first log salvaged changes).log ≤ length (salvage_of first log salvaged changes).salvaged)
       × ((salvage_of first log salvaged changes).list ≤ length (salvage_of first log salvaged changes).changes)

@@ -1,3 +1,4 @@
 pub mod Mending
 pub mod Changes
+pub mod Laid
 pub mod Salvage

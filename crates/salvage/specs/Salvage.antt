@@ -1,10 +1,11 @@
 -- Document 02, P7: the operation. Refusals: ROOM for either buffer, the log's first; before them RANGE, where the numbers would
 -- pass the greatest that there is.
-use Rattle.std.specs.Prelude.{ℕ, ◌+◌, min, List, leb, length}
+use Rattle.std.specs.Prelude.{ℕ, ◌+◌, min, List, Result, Ok, Err, leb, length}
 use Rattle.laws.specs.Base.{if}
-use Rattle.answer.specs.Told.{Told, told, DONE, RANGE, ROOM}
+use Rattle.answer.specs.declared.Refusal.{Refusal}
+use Rattle.answer.specs.Told.{Told, told_refusal, DONE, RANGE, ROOM}
 use Rattle.text.specs.Bytes.{put}
-use Rattle.salvage.specs.declared.Salvaged.{Salvaged}
+use Rattle.salvage.specs.declared.Lengths.{Lengths}
 use Rattle.salvage.specs.Mending.{parts_in, salvaged_log}
 use Rattle.salvage.specs.Changes.{changes_in, list_text}
 
@@ -20,12 +21,14 @@ pub record SalvageOut : Type 0 where
   pub salvaged : List ℕ
   pub changes : List ℕ
 
-abbrev pub salvage_out : Salvaged → List ℕ → List ℕ → SalvageOut
-salvage_out r salvaged changes = record { answer = told r.answer; log = r.log; list = r.list; salvaged = salvaged; changes = changes }
-
 -- a refusal writes nothing
 abbrev pub refused_with : Told → List ℕ → List ℕ → SalvageOut
 refused_with a salvaged changes = record { answer = a; log = 0; list = 0; salvaged = salvaged; changes = changes }
+
+-- the code's result, as told
+abbrev pub salvage_out : Result Lengths Refusal → List ℕ → List ℕ → SalvageOut
+salvage_out (Ok written) salvaged changes = record { answer = DONE; log = written.log; list = written.list; salvaged = salvaged; changes = changes }
+salvage_out (Err refusal) salvaged changes = refused_with (told_refusal refusal) salvaged changes
 
 -- the records of the log are numbered from `first` on
 unfoldable pub salvage_of : (first : ℕ) (log salvaged changes : List ℕ) → SalvageOut

@@ -9,11 +9,10 @@ use borrow.Author.Tests.{ltb-false}
 use lib.Dec.{ltb}
 use lib.ListN.{length, take, length-append, length-take}
 use Rattle.laws.proofs.Bools.{if_no}
-use Rattle.answer.specs.Told.{Told, told, succeeded, DONE}
+use Rattle.answer.specs.Told.{Told, Answer, told, succeeded, DONE}
 use Rattle.answer.proofs.Told.{told_done}
 use Rattle.records.specs.Refusal.{records_in}
 use Rattle.board.specs.declared.Board.{Board}
-use Rattle.board.specs.declared.Ran.{Ran}
 use Rattle.board.specs.Block.{RanOut, ran_out}
 use Rattle.replay.specs.Replay.{blocks_in, in_blocks}
 use Rattle.replay.specs.Printed.{replayed}
@@ -38,8 +37,8 @@ full_piece true n a e = absurd (false≢true e)
 full_piece false n a e = let way = if_no (ltb n 61440) false (succeeded a) true e false≢true in (refl, ltb-false n 61440 way.0, way.1)
 
 module _ (fresh b : Board) (so : SoFar fresh b) where
-  pub nothing_run : (r : Ran) → told r.answer ≡ DONE → r.board ≡ b → OfSomeLog fresh r
-  nothing_run r done same = (so.log, done ∙ sym so.done, same ∙ sym so.board)
+  pub nothing_run : (a : Answer) (at : Board) → told a ≡ DONE → at ≡ b → OfSomeLog fresh a at
+  nothing_run a at done same = (so.log, done ∙ sym so.done, same ∙ sym so.board)
 
   -- n bytes were read into a piece's room
   module _ (long : length fresh.ptcs ≡ 8) (n : ℕ) (bytes rows : List ℕ) (fits : length bytes ≡ 61440) (room : length rows ≡ 30720) where
@@ -48,19 +47,19 @@ module _ (fresh b : Board) (so : SoFar fresh b) where
         let space : 12 * records_in (take n bytes) ≤ length rows = rw length-take (omega arith) in
         rw so.board at (one_more fresh so.log (take n bytes) rows long (λ some. so.whole) so.done space)
 
-    pub last : (failed : Bool) (r : Ran) (after : List ℕ) → ran_out r after ≡ piece_run failed b (take n bytes) rows → OfSomeLog fresh r
-    last true r after ran = nothing_run r (ap (λ (o : RanOut). o.answer) ran) (ap (λ (o : RanOut). o.board) ran)
-    last false r after ran =
+    pub last : (failed : Bool) (a : Answer) (at : Board) (after : List ℕ) → ran_out a at after ≡ piece_run failed b (take n bytes) rows → OfSomeLog fresh a at
+    last true a at after ran = nothing_run a at (ap (λ (o : RanOut). o.answer) ran) (ap (λ (o : RanOut). o.board) ran)
+    last false a at after ran =
         (so.log ++ take n bytes, ap (λ (o : RanOut). o.answer) ran ∙ more.answer, ap (λ (o : RanOut). o.board) ran ∙ more.board)
 
-    pub goes_on : (failed : Bool) (r : Ran) (after : List ℕ) → ran_out r after ≡ piece_run failed b (take n bytes) rows
-        → is_full failed n (told r.answer) ≡ true → SoFar fresh r.board
-    goes_on true r after ran full = absurd (false≢true full)
-    goes_on false r after ran full =
-        let is = full_piece false n (told r.answer) full in
+    pub goes_on : (failed : Bool) (a : Answer) (at : Board) (after : List ℕ) → ran_out a at after ≡ piece_run failed b (take n bytes) rows
+        → is_full failed n (told a) ≡ true → SoFar fresh at
+    goes_on true a at after ran full = absurd (false≢true full)
+    goes_on false a at after ran full =
+        let is = full_piece false n (told a) full in
         record {
           log = so.log ++ take n bytes;
           whole = rw (length-append, length-take) (omega (arith, so.whole));
-          done = sym (ap (λ (o : RanOut). o.answer) ran ∙ more.answer) ∙ told_done r.answer is.2;
+          done = sym (ap (λ (o : RanOut). o.answer) ran ∙ more.answer) ∙ told_done a is.2;
           board = sym (ap (λ (o : RanOut). o.board) ran ∙ more.board);
         }

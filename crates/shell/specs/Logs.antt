@@ -1,9 +1,7 @@
 -- A log that was read from a file, one piece after the other: no contract can say which bytes those are.
 use Rattle.std.specs.Prelude.{◌≡◌, List, ℕ}
-use Rattle.answer.specs.declared.Answer.{Answer}
-use Rattle.answer.specs.Told.{told}
+use Rattle.answer.specs.Told.{Answer, told}
 use Rattle.board.specs.declared.Board.{Board}
-use Rattle.board.specs.declared.Ran.{Ran}
 use Rattle.replay.specs.Printed.{replayed}
 
 -- the answer to some log in blocks of 64 records
@@ -11,5 +9,5 @@ abbrev pub AnswerToSomeLog : Board → Answer → Type 0
 AnswerToSomeLog b a = (log : List ℕ) × (told a ≡ (replayed b log).answer)
 
 -- whatever was read, answer and board are those of some log in blocks of 64 records
-abbrev pub OfSomeLog : Board → Ran → Type 0
-OfSomeLog b r = (log : List ℕ) × (told r.answer ≡ (replayed b log).answer) × (r.board ≡ (replayed b log).board)
+abbrev pub OfSomeLog : Board → Answer → Board → Type 0
+OfSomeLog b a after = (log : List ℕ) × (told a ≡ (replayed b log).answer) × (after ≡ (replayed b log).board)

@@ -11,18 +11,18 @@ ghost use Rattle.shell.specs.Pieces.{piece_run, is_full};
 ghost use Rattle.shell.specs.Logs.{OfSomeLog};
 
 use answer::Answer;
-use board::{Board, Made, Ran};
+use board::{Board, Made};
 use files::{Got, read_piece};
 use std::io::{Error, ErrorKind, Read};
 
 // The bytes of 40 blocks.
 pub const PIECE: usize = 61440;
 
-// A piece of the log, and what its blocks gave: nothing is run where reading failed.
+// A piece of the log, and what its blocks were answered: nothing is run where reading failed.
 #[derive(Clone, Copy)]
 pub struct Step {
     pub got: Got,
-    pub ran: Ran,
+    pub answer: Answer,
 }
 
 // The board of a settings text, and the error where reading the text failed.
@@ -38,78 +38,65 @@ pub fn open_board<R: Read>(file: &mut Option<R>) -> Opened
     ensures { OfSomeText result.made }
 {
     let mut text = [0u8; 4096];
-    let got = read_piece(file, &mut text);
-    let n = got.count;
-    let made = replay::opened(&text[..n]);
+    let Got { count, failed } = read_piece(file, &mut text);
     Opened {
-        failed: got.failed,
-        made,
+        failed,
+        made: replay::opened(&text[..count]),
     }
 }
 
 // Reads the next piece of the log and runs its blocks.
 pub fn run_piece<R: Read>(
-    board: Board,
+    board: &mut Board,
     log: &mut Option<R>,
     piece: &mut [u8],
     rows: &mut [u8],
 ) -> Step
-    ensures { ReadFrom (is_some log.old) piece.new result.got.«count» (is_some result.got.failed) × (ran_out result.ran rows.new ≡ piece_run (is_some result.got.failed) board (take result.got.«count» piece.new) rows.old) }
+    ensures { ReadFrom (is_some log.old) piece.new result.got.«count» (is_some result.got.failed) × (ran_out result.answer board.new rows.new ≡ piece_run (is_some result.got.failed) board.old (take result.got.«count» piece.new) rows.old) }
 {
     let got = read_piece(log, piece);
-    if got.failed.is_some() {
-        return Step {
-            got,
-            ran: Ran {
-                answer: Answer::Done,
-                board,
-            },
-        };
-    }
-    let n = got.count;
-    let ran = replay::run_blocks(board, &piece[..n], rows);
-    Step { got, ran }
+    let answer = if got.failed.is_some() {
+        Ok(())
+    } else {
+        replay::run_blocks(board, &piece[..got.count], rows)
+    };
+    Step { got, answer }
 }
 
 impl Step {
     // Whether more of the log may follow: the piece was read, is full and was accepted.
-    pub fn is_full(self) -> bool
-        ensures { result ≡ is_full (is_some self.got.failed) self.got.«count» (told self.ran.answer) }
+    pub fn is_full(&self) -> bool
+        ensures { result ≡ is_full (is_some self.now.got.failed) self.now.got.«count» (told self.now.answer) }
     {
-        let got = self.got;
-        if got.failed.is_some() {
+        if self.got.failed.is_some() {
             return false;
         }
-        if got.count < PIECE {
+        if self.got.count < PIECE {
             return false;
         }
-        self.ran.answer.is_done()
+        self.answer.is_ok()
     }
 }
 
 // Runs the log, and hands back its last step: answer and board are those of the bytes that were read, in blocks of 64 records. Where
 // reading failed, they are those of the pieces before. No file has as many pieces as the loop has turns.
-pub fn replay_log<R: Read>(log: &mut Option<R>, fresh: Board) -> Step
-    ensures { OfSomeLog fresh result.ran }
+pub fn replay_log<R: Read>(log: &mut Option<R>, board: &mut Board) -> Step
+    ensures { OfSomeLog board.old result.answer board.new }
 {
+    replay::eight(&board.ptcs, &board.marks);
     let mut piece = [0u8; PIECE];
     let mut rows = [0u8; PIECE / 2];
-    let mut board = fresh;
     for _ in 0..u64::MAX {
         let step = run_piece(board, log, &mut piece, &mut rows);
         if !step.is_full() {
             return step;
         }
-        board = step.ran.board;
     }
     Step {
         got: Got {
             count: 0,
             failed: Some(Error::from(ErrorKind::FileTooLarge)),
         },
-        ran: Ran {
-            answer: Answer::Done,
-            board,
-        },
+        answer: Ok(()),
     }
 }

@@ -2,15 +2,15 @@
 -- `ones_in k` adds up the k lowest bits, one after the other, as `among` adds up marks from the newest to the oldest.
 use mathlib.Core.Path.{◌≡◌, refl, sym, ap, ◌∙◌}
 use mathlib.Core.List.{List}
-use Prim.Native.Nat.{ℕ, zero, suc, ◌+◌, ◌-◌, ◌/◌, ◌%◌, ◌^◌, ◌≤◌, ◌<◌, min}
-use native.Mathlib.Nat.{add-zero, add-suc}
+use Prim.Native.Nat.{ℕ, zero, suc, ◌+◌, ◌-◌, ◌*◌, ◌/◌, ◌%◌, ◌^◌, ◌≤◌, ◌<◌, min}
+use native.Mathlib.Nat.{add-zero, add-suc, mod-lt}
 use native.Mathlib.Numerals.{add-one}
 use native.Mathlib.Omega.{arith}
 use native.Mathlib.Decide.{dec_lt}
 use lib.Arith.{lt-one}
 use lib.Count.{ones, ones_in, ones_step}
 use lib.ListN.{get_or}
-use lib.Pow.{field, mod-mod-pow, shr-shr}
+use lib.Pow.{pow_pos, field, mod-mod-pow, shr-shr, shl-shr}
 use borrow.Author.Tests.{lt-ltb, le-ltb}
 use Rattle.throttle.specs.Marks.{bit_at, mark_at, mark_back, among}
 use Rattle.throttle.proofs.Ring.{back_at, back_none}
@@ -29,6 +29,18 @@ ones_low (suc k) n =
     let bit : n % 2 ^ suc k % 2 ≡ n % 2 = rw (← add-one k) (mod-mod-pow n k 1) in
     let rest : n % 2 ^ suc k / 2 ≡ n / 2 % 2 ^ k = rw (← add-one k) (field n k 1) in
     rw (bit, rest) (ap (λ (m : ℕ). n % 2 + m) (ones_low k (n / 2)))
+
+ones_of_low : (k w : ℕ) → ones (w % 2 ^ k) ≡ ones_in k w
+ones_of_low k w = sym (ones_in_lem k (w % 2 ^ k) (mod-lt w (pow_pos k))) ∙ ones_low k w
+
+-- the ones of t bits of a word, those below bit u: two shifts leave them alone
+pub ones_between : (w u t : ℕ) → t ≤ u → u ≤ 64 → ones ((w * 2 ^ (64 - u)) % 2 ^ 64 / 2 ^ (64 - t)) ≡ ones_in t (w / 2 ^ (u - t))
+ones_between w u t h l =
+    let all : t + (64 - t) ≡ 64 = omega arith in
+    let parts : 64 - u + (u - t) ≡ 64 - t = omega arith in
+    let cut : (w * 2 ^ (64 - u)) % 2 ^ 64 / 2 ^ (64 - t) ≡ w * 2 ^ (64 - u) / 2 ^ (64 - t) % 2 ^ t = rw all at (field (w * 2 ^ (64 - u)) t (64 - t)) in
+    let moved : w * 2 ^ (64 - u) / 2 ^ (64 - t) ≡ w / 2 ^ (u - t) = rw (← parts, ← shr-shr (w * 2 ^ (64 - u)) (64 - u) (u - t), shl-shr w (64 - u)) in
+    ap ones cut ∙ rw moved (ones_of_low t (w / 2 ^ (u - t)))
 
 pub ones_in_le : (k n : ℕ) → ones_in k n ≤ k
 unfolding ones_in
@@ -72,28 +84,27 @@ among_all ws n k = go (dec_lt n k)
     go (no p) = let e : min k n ≡ k = omega arith in rw e
 
 -- a longer count goes on from a shorter one, before its crossings
-pub among_on : (ws : List ℕ) (n j k : ℕ) → j ≤ k → among ws n k ≡ among ws n j + among ws (n - min j n) (k - j)
+pub among_on : (ws : List ℕ) (n j k : ℕ) → j ≤ k → among ws n k ≡ among ws n j + among ws (n - j) (k - j)
 among_on ws n j k h = go (dec_lt n j)
   where
-    go : Dec (n < j) → among ws n k ≡ among ws n j + among ws (n - min j n) (k - j)
+    go : Dec (n < j) → among ws n k ≡ among ws n j + among ws (n - j) (k - j)
     go (yes p) =
         let all : min k n ≡ n = omega arith in
         let short : min j n ≡ n = omega arith in
-        let none : n - min j n ≡ 0 = omega arith in
+        let none : n - j ≡ 0 = omega arith in
         let first : min (k - j) 0 ≡ 0 = omega arith in
         let e = rw all at (among_all ws n k) in
         let f = rw short at (among_all ws n j) in
         let z : among ws 0 (k - j) ≡ 0 = sym (rw first at (among_all ws 0 (k - j))) ∙ among_none ws 0 0 (omega arith) in
-        let rest : among ws (n - min j n) (k - j) ≡ 0 = rw none z in
+        let rest : among ws (n - j) (k - j) ≡ 0 = rw none z in
         omega (arith, e, f, rest)
     go (no p) =
         let whole : j + (k - j) ≡ k = omega arith in
-        let short : min j n ≡ j = omega arith in
-        rw short (rw whole at (among_split ws n j (k - j) (omega arith)))
+        rw whole at (among_split ws n j (k - j) (omega arith))
 
 -- so the sum of a count and of what lies before is the longer count
-pub goes_on : (ws : List ℕ) (n j k m least v : ℕ) → j ≤ k → m ≡ among ws n j → least ≡ min j n → v ≡ among ws (n - least) (k - j) → m + v ≡ among ws n k
-goes_on ws n j k m least v h e l f = rw (e, f, l) (sym (among_on ws n j k h))
+pub goes_on : (ws : List ℕ) (n j k m before v : ℕ) → j ≤ k → m ≡ among ws n j → before ≡ n - j → v ≡ among ws before (k - j) → m + v ≡ among ws n k
+goes_on ws n j k m before v h e l f = rw (e, f, l) (sym (among_on ws n j k h))
 
 -- a mark in the word of the newest crossing
 word_mark : (ws : List ℕ) (last t : ℕ) → t ≤ last % 64 → mark_back ws (last + 1) t ≡ get_or ws (last / 64 % 32) 0 / 2 ^ (last % 64 - t) % 2

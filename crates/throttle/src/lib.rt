@@ -2,7 +2,7 @@
 // The marks are a ring of bits: crossing c has bit c % 64 of word c / 64 % 32. They are lent, since a copy costs more than a rule.
 #![tactic(auto)]
 
-ghost use Rattle.std.specs.Prelude.{◌≡◌, ◌+◌, ◌-◌, ◌<◌, ◌≤◌, ◌^◌, leb};
+ghost use Rattle.std.specs.Prelude.{◌≡◌, ◌+◌, ◌-◌, ◌/◌, ◌<◌, ◌≤◌, ◌^◌, leb};
 ghost use Rattle.std.specs.Int.Count.{ones_in};
 ghost use Rattle.throttle.specs.Marks.{bit_at, put_bit, mark_at, marked, passed, among};
 ghost use Rattle.throttle.specs.Sound.{sound_marks};
@@ -10,6 +10,7 @@ ghost use Rattle.throttle.specs.Rules.{limit_of, Sensible, refused_by};
 
 use settings::{Rule, Rules};
 
+#[tactic(auto, unfolding(crate::specs::Marks::bit_at))]
 fn bit(w: u64, k: u64) -> u64
     requires { k < 64 }
     ensures { result ≡ bit_at w k }
@@ -18,27 +19,25 @@ fn bit(w: u64, k: u64) -> u64
 }
 
 // w with x for its bit k.
+#[tactic(auto, using(crate::proofs::Bits::put_is))]
 fn put_bit(w: u64, k: u64, x: u64) -> u64
     requires { (k < 64) × (x < 2) }
     ensures { result ≡ put_bit w k x }
 {
-    let p = 1u64 << k;
-    ((w >> k) / 2 * 2 + x) * p + w % p
+    w & !(1 << k) | x << k
 }
 
-// How many of the k lowest bits are set.
-fn low_ones(w: u64, k: u64) -> u64
-    requires { k ≤ 64 }
-    ensures { result ≡ ones_in k w }
+// How many of the `taken` bits below bit `used` are set.
+#[tactic(auto, using(crate::proofs::Words::ones_between))]
+fn ones_below(w: u64, used: u64, taken: u64) -> u64
+    requires { (0 < taken) × (taken ≤ used) × (used ≤ 64) }
+    ensures { result ≡ ones_in taken (w / 2 ^ (used - taken)) }
 {
-    if k < 64 {
-        let p = 1u64 << k;
-        return u64::count_ones(w % p) as u64;
-    }
-    u64::count_ones(w) as u64
+    u64::from((w << (64 - used) >> (64 - taken)).count_ones())
 }
 
 // The mark of crossing c: 1 where it carried a trigger.
+#[tactic(auto, unfolding(crate::specs::Marks::mark_at))]
 fn mark(marks: &[u64; 32], c: u64) -> u64
     ensures { result ≡ mark_at marks.now c }
 {
@@ -46,16 +45,17 @@ fn mark(marks: &[u64; 32], c: u64) -> u64
     bit(marks[i], c % 64)
 }
 
+#[tactic(auto, unfolding(crate::specs::Marks::marked))]
 fn put_mark(marks: &mut [u64; 32], c: u64, x: u64)
     requires { x < 2 }
     ensures { marks.new ≡ marked marks.old c x }
 {
     let i = (c / 64 % 32) as usize;
-    let w = put_bit(marks[i], c % 64, x);
-    marks[i] = w;
+    marks[i] = put_bit(marks[i], c % 64, x);
 }
 
 // Marks crossing c, which carried a trigger where x is 1, and clears the next place, the oldest.
+#[tactic(auto, unfolding(crate::specs::Marks::passed))]
 pub fn pass(marks: &mut [u64; 32], c: u64, x: u64)
     requires { (x < 2) × (c + 1 < 2 ^ 64) }
     ensures { marks.new ≡ passed marks.old c x }
@@ -65,19 +65,19 @@ pub fn pass(marks: &mut [u64; 32], c: u64, x: u64)
 }
 
 // After n crossings, how many of the last k are marked. It goes by words, from the newest.
+#[tactic(auto, using(crate::proofs::Words::among_all, crate::proofs::Words::among_none, crate::proofs::Words::count_turn, crate::proofs::Words::count_bounded))]
 fn count(marks: &[u64; 32], n: u64, k: u64) -> u64
     ensures { result ≡ among marks.now n k }
 {
-    let mut left = plain::least(k, n);
+    let mut left = k.min(n);
     let mut end = n;
     let mut sum: u64 = 0;
     while 0 < left {
         let last = end - 1;
         let i = (last / 64 % 32) as usize;
         let used = last % 64 + 1;
-        let taken = plain::least(left, used);
-        let w = marks[i];
-        sum += low_ones(w >> (used - taken), taken);
+        let taken = left.min(used);
+        sum += ones_below(marks[i], used, taken);
         end -= taken;
         left -= taken;
     }
@@ -89,16 +89,7 @@ pub fn is_sound(marks: &[u64; 32], n: u64) -> bool
     requires { n < 2 ^ 63 }
     ensures { result ≡ sound_marks n marks.now }
 {
-    let mut left = 2048 - plain::least(n, 2047);
-    let mut c = n;
-    while 0 < left {
-        if mark(marks, c) != 0 {
-            return false;
-        }
-        c += 1;
-        left -= 1;
-    }
-    true
+    (0..2048 - n.min(2047)).all(|d| mark(marks, n + d) == 0)
 }
 
 fn limit(rule: Rule, warn: bool) -> u32
@@ -116,18 +107,19 @@ struct Counted {
 
 impl Counted {
     // The count that a rule goes by. Where its period is longer, what is counted already is not counted again.
+    #[tactic(auto, using(crate::proofs::Words::goes_on, crate::proofs::Ring::among_le))]
     fn on(self, marks: &[u64; 32], n: u64, rule: Rule) -> Counted
         requires { (self.marked ≡ among marks.now n self.crossings) × (0 < rule.period) }
         ensures { (result.crossings ≡ rule.period - 1) × (result.marked ≡ among marks.now n (rule.period - 1)) }
     {
-        let k = (rule.period - 1) as u64;
+        let k = u64::from(rule.period - 1);
         if k < self.crossings {
             return Counted {
                 crossings: k,
                 marked: count(marks, n, k),
             };
         }
-        let before = n - plain::least(self.crossings, n);
+        let before = n.saturating_sub(self.crossings);
         Counted {
             crossings: k,
             marked: self.marked + count(marks, before, k - self.crossings),
@@ -138,12 +130,12 @@ impl Counted {
     fn is_within(self, rule: Rule, warn: bool) -> bool
         ensures { result ≡ leb (self.marked + 1) (limit_of rule warn) }
     {
-        let most = limit(rule, warn);
-        self.marked < most as u64
+        self.marked < u64::from(limit(rule, warn))
     }
 }
 
 // The first of the four rules that refuses a trigger after n crossings, by the low limits under warning; 0 where none does.
+#[tactic(auto, using(crate::proofs::Refusals::closed), unfolding(crate::specs::Rules::refuser, crate::specs::Rules::allows, crate::specs::Marks::among))]
 pub fn refused_by(marks: &[u64; 32], rules: Rules, n: u64, warn: bool) -> u8
     requires { Sensible rules }
     ensures { result ≡ refused_by rules marks.now n warn }

@@ -6,6 +6,6 @@ pub returns : goal.returns
 returns c =
     let w = c.write_text in
     let n = c.text_length in (
-      laid_long c.args.s c.requires.0 c.args.text.now _ c.requires.1 w.result w.ensures n.result n.ensures,
-      laid_are c.args.s c.requires.0 c.args.text.now _ c.requires.1 w.result w.ensures n.result n.ensures,
+      laid_long c.args.s.now c.requires.0 c.args.text.now _ c.requires.1 w.result w.ensures n.result n.ensures,
+      laid_are c.args.s.now c.requires.0 c.args.text.now _ c.requires.1 w.result w.ensures n.result n.ensures,
     )

@@ -4,4 +4,4 @@ use Rattle.shell.proofs.Laws.{SoFar}
 use Rattle.shell.proofs.replay_log.Given as goal
 
 abbrev pub invariant-loop : goal.invariant-loop
-invariant-loop g l = (length l.piece ≡ 61440) × (length l.rows ≡ 30720) × SoFar l.fn.fresh l.board
+invariant-loop g l = (length l.piece ≡ 61440) × (length l.rows ≡ 30720) × SoFar l.fn.board l.board

@@ -1,8 +1,9 @@
 -- `records::test_blocks` meets its contract: none of the blocks before a turn was refused, and their crossings are counted.
 -- A turn and a refusal are each one law of the blocks.
 use mathlib.Core.Path.{◌∙◌}
+use Rattle.answer.proofs.Told.{is_err_told}
 use Rattle.records.proofs.Chunks.{start, turn}
-use Rattle.records.proofs.Testing.{told_refused, told_went, none_gone, gone_until, gone_on}
+use Rattle.records.proofs.Testing.{none_gone, gone_until, gone_on}
 use Rattle.records.proofs.Listed.{crossings_listed}
 use Rattle.records.proofs.blocks.test_blocks.Goals as goal
 
@@ -15,10 +16,10 @@ loop-i-init c =
 pub returns-then-refused : goal.returns-then-refused
 returns-then-refused c =
     let t = turn 1536 c.args.log.now _ _ _ _ _ c.loop-i.invariant.0 c.next.ensures.steps c.in-Some.is in
-    gone_until _ _ _ _ _ _ _ _ t c.loop-i.invariant.1 _ c.test_block-answer.ensures (told_refused _ c.if-refused.ensures.value)
+    gone_until _ _ _ _ _ _ _ _ t c.loop-i.invariant.1 _ c.test_block-answer.ensures (rw (is_err_told, ← c.if-refused.ensures.value))
 
 pub loop-i-preserved : goal.loop-i-preserved
 loop-i-preserved c =
     let t = turn 1536 c.args.log.now _ _ _ _ _ c.loop-i.invariant.0 c.next.ensures.steps c.in-Some.is in
     let counted = c.crossings_in-crossings.ensures ∙ crossings_listed c.in-Some.block.now _ c.as_chunks.ensures.front in
-    (t.left, gone_on _ _ _ _ _ _ _ _ t c.loop-i.invariant.1 _ c.test_block-answer.ensures (told_went _ c.if-refused.ensures.value) _ counted)
+    (t.left, gone_on _ _ _ _ _ _ _ _ t c.loop-i.invariant.1 _ c.test_block-answer.ensures (rw (is_err_told, ← c.if-refused.ensures.value)) _ counted)
