@@ -8,168 +8,94 @@
 
 mod boards;
 
-ghost use Rattle.std.specs.Prelude.{◌≤◌, length};
+ghost use Rattle.std.specs.Prelude.{◌≤◌};
 
 use board::Board;
-use boards::{
-    are_same_settings, is_same, set_clock, set_codes, set_held, set_mark, set_ptc, set_setting,
-};
+use boards::{all_held, set_clock, set_held, set_ptc, small};
 use cases::{
-    Words, after, at_most, byte, end_line, line_end, read_input, record_of, say_answer,
-    say_comment, say_left, say_written, words_of,
+    Log, Words, at_most, byte, end_line, read_input, record_of, say_answer, say_comment, say_left,
+    say_written, words_of,
 };
 use settings::Settings;
 use std::io;
 use std::io::Write;
 
-// The log that the lines have made: the first `long` bytes.
-#[derive(Clone, Copy)]
-struct Log {
-    bytes: [u8; 960],
-    long: usize,
-}
-
-// Where the rows of a log end, as far as they fit into the room; a refused block writes none.
-fn rows_end(done: bool, long: usize, room: usize) -> usize
-    ensures { result ≤ room }
-{
-    if done {
-        return at_most(long as u64 / 24, room / 12) * 12;
-    }
-    0
-}
-
-// Runs a block over the first bytes of a rows buffer, and tells what it left.
-fn run_block<W: Write>(
-    out: &mut W,
-    before: Board,
-    log: &[u8],
-    rows: &mut [u8],
-    room: usize,
-) -> io::Result<Board>
-    requires { room ≤ length rows.old }
-{
-    let r = before.block(log, &mut rows[..room]);
-    let a = r.answer;
-    let board = r.board;
-    let done = a.is_done();
-    say_answer(out, b"answer ", a)?;
-    say_left(out, b", board", is_same(before, board))?;
-    let end = rows_end(done, log.len(), room);
-    say_written(out, b", rows", rows, done, end, 12)?;
-    Ok(board)
-}
-
-impl Log {
-    fn empty() -> Log {
-        Log {
-            bytes: [0u8; 960],
-            long: 0,
-        }
-    }
-
-    fn with_byte(mut self, at: usize, value: u8) -> Log {
-        if at < 960 {
-            self.bytes[at] = value;
-        }
-        self
-    }
-
-    // One record more, where there is room.
-    fn with_record(self, rec: [u8; 24]) -> Log {
-        let at = self.long;
-        if 936 < at {
-            return self;
-        }
-        let mut bytes = self.bytes;
-        text::put_bytes(&mut bytes, at, &rec);
-        Log {
-            bytes,
-            long: at + 24,
-        }
-    }
-
-    fn with_length(mut self, n: usize) -> Log {
-        self.long = n;
-        self
-    }
-
-    // The log after a line.
-    fn obey(self, w: Words) -> Log {
-        let letter = w.letter;
-        match letter {
-            b'n' => Log::empty(),
-            b'a' => self.with_record(record_of(w)),
-            b'z' => self.with_byte(at_most(w.a, 960), byte(w.b)),
-            b'l' => self.with_length(at_most(w.a, 960)),
-            _ => self,
-        }
-    }
-}
+// The bytes of the longest log.
+const LOG: usize = 960;
 
 fn fresh_board() -> Board {
-    let made = Board::fresh(Settings::standard());
-    made.board
+    Board::fresh(Settings::standard()).board
 }
 
-fn run_log<W: Write>(out: &mut W, board: Board, log: Log, room: usize) -> io::Result<Board>
+// Runs a log as a block over the first bytes of a rows buffer, and tells what it left.
+fn run_block<W: Write>(out: &mut W, board: &mut Board, log: &[u8], room: usize) -> io::Result<()>
     requires { room ≤ 480 }
 {
-    // No line makes the log longer than its buffer; the bound is taken again for the proof.
-    let n = at_most(log.long as u64, 960);
-    let bytes = log.bytes;
-    let mut rows = [170u8; 480];
-    run_block(out, board, &bytes[..n], &mut rows, room)
+    let mut rows = [170; 480];
+    let before = *board;
+    let answer = board.block(log, &mut rows[..room]);
+    let done = answer.is_ok();
+    let end = if done {
+        (log.len() / 24).min(room / 12) * 12
+    } else {
+        0
+    };
+    say_answer(out, b"answer ", answer)?;
+    say_left(out, b", board", *board == before)?;
+    say_written(out, b", rows", &rows, done, end, 12)
 }
 
-fn remade<W: Write>(out: &mut W, before: Board) -> io::Result<Board> {
-    let made = Board::fresh(before.settings);
-    let a = made.answer;
-    let board = made.board;
-    say_answer(out, b"answer ", a)?;
-    say_left(
-        out,
-        b", settings",
-        are_same_settings(before.settings, board.settings),
-    )?;
-    end_line(out)?;
-    Ok(board)
+fn remake<W: Write>(out: &mut W, board: &mut Board) -> io::Result<()> {
+    let before = board.settings;
+    let made = Board::fresh(before);
+    *board = made.board;
+    say_answer(out, b"answer ", made.answer)?;
+    say_left(out, b", settings", board.settings == before)?;
+    end_line(out)
 }
 
-// The board after a line.
-fn obey<W: Write>(out: &mut W, board: Board, log: Log, w: Words) -> io::Result<Board> {
-    let letter = w.letter;
-    match letter {
-        b'n' => Ok(fresh_board()),
-        b's' => Ok(set_setting(board, at_most(w.a, 146), w.b)),
-        b'v' => Ok(set_clock(board, w.a, w.b)),
-        b'p' => Ok(set_ptc(board, at_most(w.a, 7), w.b, w.c)),
-        b'm' => Ok(set_mark(board, at_most(w.a, 31), w.b)),
-        b'h' => Ok(set_held(board, w.a == 1, at_most(w.b, 20), w.c)),
-        b'c' => Ok(set_codes(board, w.a)),
-        b'b' => run_log(out, board, log, at_most(w.a, 480)),
-        b'f' => remade(out, board),
-        _ => Ok(board),
+// Does what a line tells of the log.
+fn change_log(log: &mut Log<LOG>, w: Words) {
+    match w.letter {
+        b'n' => *log = Log::empty(),
+        b'a' => log.push(&record_of(w)),
+        b'z' => log.set(at_most(w.a, LOG), byte(w.b)),
+        b'l' => log.set_length(at_most(w.a, LOG)),
+        _ => {}
     }
+}
+
+// Does what a line tells of the board.
+fn obey<W: Write>(out: &mut W, board: &mut Board, log: &Log<LOG>, w: Words) -> io::Result<()> {
+    match w.letter {
+        b'n' => *board = fresh_board(),
+        b's' => board.settings.values[at_most(w.a, 146)] = small(w.b),
+        b'v' => set_clock(board, w.a, w.b),
+        b'p' => set_ptc(&mut board.ptcs[at_most(w.a, 7)], w.b, w.c),
+        b'm' => board.marks[at_most(w.a, 31)] = w.b,
+        b'h' => set_held(&mut board.held, w.a == 1, at_most(w.b, 20), w.c),
+        b'c' => board.held = all_held(w.a),
+        b'b' => run_block(out, board, log.bytes(), at_most(w.a, 480))?,
+        b'f' => remake(out, board)?,
+        _ => {}
+    }
+    Ok(())
 }
 
 fn obey_all<W: Write>(out: &mut W, input: &[u8]) -> io::Result<()> {
     let mut board = fresh_board();
     let mut log = Log::empty();
-    let mut at = 0;
-    while at < input.len() {
-        let end = line_end(input, at);
-        let w = words_of(&input[at..end]);
-        say_comment(out, &input[at..end], w.letter)?;
-        log = log.obey(w);
-        board = obey(out, board, log, w)?;
-        at = after(input, end);
+    for line in input.split(|b| *b == b'\n') {
+        let w = words_of(line);
+        say_comment(out, line)?;
+        change_log(&mut log, w);
+        obey(out, &mut board, &log, w)?;
     }
     Ok(())
 }
 
 fn main(rt: HostRuntime) -> io::Result<()> {
-    let mut input = [0u8; 8192];
+    let mut input = [0; 8192];
     let n = read_input(rt.stdin(), &mut input)?;
     obey_all(&mut io::writer(&rt), &input[..n])
 }

@@ -1,6 +1,6 @@
 -- What the table of busy numbers says: a number without a mark is no controller's at_bc0 and none's at_gap.
 -- A mark stays, whoever is gone over later, so a place without one was passed by every controller; equal numbers have one place.
-use mathlib.Core.Path.{◌≡◌, refl, ap, sym, ◌∙◌}
+use mathlib.Core.Path.{◌≡◌, refl, ap}
 use mathlib.Core.Logic.{⊎_elim}
 use mathlib.Core.Bool.{true}
 use mathlib.Core.List.{List}
@@ -9,18 +9,14 @@ use native.Mathlib.Nat.{not-suc-le-zero}
 use native.Mathlib.Omega.{arith}
 use borrow.Author.Tests.{eqb-true}
 use lib.ListN.{length, get_or, set, length-set}
-use lib.Seq.{get_or-set_same, get_or-set_other}
+use Rattle.std.proofs.lemmas.Grind.{elements}
 use Rattle.laws.proofs.Tests.{same_or_not}
 use Rattle.settings.specs.declared.Settings.{Settings}
 use Rattle.settings.specs.Names.{schedule_of}
 use Rattle.kit.specs.Support.Laid.{place_of, busy_for, busy_of, plain_in}
 
 unmarked : (l : List ℕ) (p q : ℕ) → p < length l → get_or (set l q 1) p 0 ≡ 0 → (p ≡ q → ⊥) × (get_or l p 0 ≡ 0)
-unmarked l p q fits e =
-    ⊎_elim
-    (λ (same : p ≡ q). absurd (omega (arith, get_or-set_same l p 1 0 fits, rw (← same) at e)))
-    (λ (other : p ≡ q → ⊥). (other, sym (get_or-set_other l q p 1 0 other) ∙ e))
-    (same_or_not p q)
+unmarked l p q fits e = (grind (arith, elements), grind (arith, elements))
 
 module _ (s : Settings) where
   busy_long : (k : ℕ) → length (busy_for s k) ≡ 4096

@@ -1,3 +1,4 @@
 pub mod Settled
 pub mod Busy
 pub mod Plans
+mod Tables

@@ -1,14 +1,11 @@
 -- What settings that pass the check give the steps to count with.
 -- Each fact is one of their bounds.
 use mathlib.Core.Path.{◌≡◌}
-use mathlib.Core.Logic.{⊎_elim}
 use mathlib.Core.Bool.{true}
-use Prim.Native.Nat.{ℕ, ◌≤◌, ◌<◌}
-use native.Mathlib.Nat.{zero-add}
+use Prim.Native.Nat.{◌≤◌, ◌<◌}
 use native.Mathlib.Omega.{arith}
-use borrow.Author.Tests.{le-leb}
-use lib.ListN.{length, get_or, get_or-eq_default}
-use Rattle.laws.proofs.Tests.{lt_or_ge}
+use lib.ListN.{length}
+use Rattle.std.proofs.lemmas.Grind.{common_steps}
 use Rattle.laws.proofs.Over.{length_tabulate, get_d_tabulate}
 use Rattle.answer.specs.Told.{DONE}
 use Rattle.settings.specs.declared.Settings.{Settings}
@@ -28,19 +25,10 @@ sensible s ok = omega (arith, bounded s ok)
 
 -- past the last controller there is 0
 pub slot_room : (s : Settings) → checked s ≡ DONE → SlotRoom (slots_of s)
-slot_room s ok = record { most = most }
-  where
-    most : (k : ℕ) → get_or (slots_of s) k 0 ≤ 255
-    most k =
-        ⊎_elim
-        (λ (h : k < 8). rw (get_d_tabulate (slot_of s) 0 8 k 0 h, zero-add) ((bounded s ok).slot k h))
-        (λ (h : 8 ≤ k). let past : length (slots_of s) ≤ k = rw (slots_long s) h in rw (get_or-eq_default (slots_of s) 0 past) (omega arith))
-        (lt_or_ge k 8)
+slot_room s ok = record { most = λ k. let b = bounded s ok in grind (arith, common_steps, length_tabulate, get_d_tabulate) }
 
 pub waits_sound : (s : Settings) → checked s ≡ DONE → sound_waits (waits_of s) ≡ true
-waits_sound s ok =
-    let b = bounded s ok in
-    rw (le-leb _ _ b.settle_resync, le-leb _ _ b.settle_hard, le-leb _ _ b.recover_resync, le-leb _ _ b.recover_hard)
+waits_sound s ok = let b = bounded s ok in grind arith
 
 pub orbit_some : (s : Settings) → checked s ≡ DONE → (0 < orbit_of s) × (orbit_of s ≤ 4096)
 orbit_some s ok = omega (arith, bounded s ok)

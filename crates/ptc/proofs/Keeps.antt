@@ -1,19 +1,17 @@
 -- Crossings and commands keep a controller sound, and a sound one has room for the next crossing.
 -- Each part of the soundness is kept by a law of its own; here they are put together.
-use mathlib.Core.Path.{◌≡◌, refl}
-use mathlib.Core.Logic.{⊎_elim}
-use mathlib.Core.Bool.{Bool, true, false, not, ◌&&◌}
+use mathlib.Core.Path.{◌≡◌}
+use mathlib.Core.Bool.{Bool, true, ◌&&◌}
 use Prim.Native.Nat.{ℕ, ◌+◌, ◌≤◌, ◌<◌, ◌^◌}
 use native.Mathlib.Omega.{arith}
 use borrow.Author.Rules.{rules}
-use borrow.Author.Tests.{ne_eqb}
 use lib.Dec.{eqb}
 use Rattle.laws.specs.Base.{if}
-use Rattle.laws.proofs.Tests.{tests, either, same_or_not}
+use Rattle.laws.proofs.Tests.{tests}
 use Rattle.settings.specs.declared.names.Schedule.{Schedule}
 use Rattle.settings.specs.declared.names.Waits.{Waits}
 use Rattle.states.specs.Names.{running}
-use Rattle.states.specs.Commands.{takes}
+use Rattle.states.specs.Commands.{CALIBRATE, takes}
 use Rattle.states.specs.Moves.{moved_of}
 use Rattle.states.specs.Sound.{sound_state, sound_waits}
 use Rattle.states.proofs.Keeps.{moved_sound, command_sound}
@@ -25,7 +23,7 @@ use Rattle.ptc.specs.declared.Plan.{Plan}
 use Rattle.ptc.specs.declared.Scene.{Scene}
 use Rattle.ptc.specs.Cycle.{kept_of, opened_of, asks_of}
 use Rattle.ptc.specs.Crossing.{rule_in, events_of, crossed_of}
-use Rattle.ptc.specs.Command.{armed_ptc, led_ptc, commanded_of}
+use Rattle.ptc.specs.Command.{commanded_of}
 use Rattle.ptc.specs.Support.Room.{Room}
 use Rattle.ptc.specs.Sound.{sound_cycle, sound_ptc}
 
@@ -77,37 +75,23 @@ crossed_sound plan scene k class asked own m p w e =
     })
 
 -- CALIBRATE is taken in READY and WARN alone
-calibrates : (s : ℕ) (cycle : Bool) → takes 5 s cycle ≡ true → running s ≡ true
+calibrates : (command s : ℕ) (cycle : Bool) → takes command s cycle ≡ true → eqb command CALIBRATE ≡ true → running s ≡ true
 unfolding takes
-calibrates s cycle e = grind arith
-
-module _ (w : Waits) (k : ℕ) (own : Bool) (m : ℕ) (p : Ptc) (waits : sound_waits w ≡ true) (s : Sound k own m p) where
-  armed_sound : running p.state ≡ true → Sound k own m (armed_ptc p)
-  armed_sound e = record { stands = s.stands; cycle = rw e; counts = s.counts; events = s.events }
-
-  led_sound : (command : ℕ) → (command ≡ 5 → ⊥) → Sound k own m (led_ptc w command p)
-  led_sound command n =
-      record {
-        stands = rw (ne_eqb command 5 n) at (command_sound w k command p.state p.wait waits s.stands);
-        cycle = refl;
-        counts = grind (arith, none_sound m);
-        events = s.events;
-      }
+calibrates command s cycle t e = grind arith
 
 pub commanded_sound : (w : Waits) (k command : ℕ) (own : Bool) (m : ℕ) (p : Ptc) → sound_waits w ≡ true → sound_ptc k own m p ≡ true
     → sound_ptc k own m (commanded_of w command p).ptc ≡ true
 unfolding commanded_of
 commanded_sound w k command own m p waits h =
     let s = sound_read k own m p h in
-    let busy = not (eqb p.cycle 0) in
-    ⊎_elim
-    (λ (t : takes command p.state busy ≡ true).
-    ⊎_elim
-    (λ (e : command ≡ 5). rw (t, e) (make k own m (armed_ptc p) (armed_sound w k own m p waits s (calibrates p.state busy (rw e at t)))))
-    (λ (n : command ≡ 5 → ⊥). rw (t, ne_eqb command 5 n) (make k own m (led_ptc w command p) (led_sound w k own m p waits s command n)))
-    (same_or_not command 5))
-    (λ (t : takes command p.state busy ≡ false). rw t h)
-    (either (takes command p.state busy))
+    let led = command_sound w k command p.state p.wait waits s.stands in
+    make k own m _
+    (record {
+      stands = grind arith;
+      cycle = grind (arith, calibrates command p.state);
+      counts = grind (arith, none_sound m);
+      events = grind arith;
+    })
 
 pub roomy : (k : ℕ) (own : Bool) (m : ℕ) (p : Ptc) → m < 2 ^ 41 → sound_ptc k own m p ≡ true → Room p
 roomy k own m p h e =

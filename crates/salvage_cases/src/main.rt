@@ -7,11 +7,12 @@
 
 ghost use Rattle.std.specs.Prelude.{◌<◌, ◌≤◌, length};
 
+use answer::{Answer, Refusal};
 use cases::{
     Words, after, at_most, byte, end_line, line_end, read_input, record_of, say, say_answer,
     say_comment, say_number, say_untouched, say_written, words_of,
 };
-use salvage::{Salvaged, salvage};
+use salvage::{Lengths, salvage};
 use std::io;
 use std::io::Write;
 
@@ -118,9 +119,9 @@ fn say_later<W: Write>(out: &mut W, changes: &[u8], done: bool, end: usize) -> i
     requires { end ≤ length changes.now }
 {
     if done {
-        say_untouched(out, b", later bytes", changes, end)?;
+        say_untouched(out, b", later bytes", &changes[end..])?;
     } else {
-        say_untouched(out, b", buffer", changes, end)?;
+        say_untouched(out, b", buffer", &changes[end..])?;
     }
     end_line(out)
 }
@@ -128,21 +129,26 @@ fn say_later<W: Write>(out: &mut W, changes: &[u8], done: bool, end: usize) -> i
 // What came back, and the buffers after it.
 fn say_salvaged<W: Write>(
     out: &mut W,
-    r: Salvaged,
+    a: Answer,
+    wrote: Lengths,
     salvaged: &[u8],
     changes: &[u8],
 ) -> io::Result<()> {
-    let a = r.answer;
-    let done = a.is_done();
+    let done = a.is_ok();
     say_answer(out, b"answer ", a)?;
     end_line(out)?;
-    say_number(out, b"  log ", r.log as u64)?;
-    let written = at_most(r.log as u64, salvaged.len());
+    say_number(out, b"  log ", wrote.log as u64)?;
+    let written = at_most(wrote.log as u64, salvaged.len());
     say_written(out, b", buffer", salvaged, done, written, 24)?;
-    let end = at_most(r.list as u64, changes.len());
-    say_number(out, b"  list ", r.list as u64)?;
+    let end = at_most(wrote.list as u64, changes.len());
+    say_number(out, b"  list ", wrote.list as u64)?;
     say_text(out, changes, end)?;
     say_later(out, changes, done, end)
+}
+
+// How many bytes were written: a refusal writes none.
+fn wrote(r: Result<Lengths, Refusal>) -> Lengths {
+    r.unwrap_or(Lengths { log: 0, list: 0 })
 }
 
 // Salvages into the first bytes of the buffers.
@@ -157,7 +163,7 @@ fn salvage_whole<W: Write>(
     let room = at_most(w.a, salvaged.len());
     let list = at_most(w.b, changes.len());
     let r = salvage(first, log, &mut salvaged[..room], &mut changes[..list]);
-    say_salvaged(out, r, salvaged, changes)
+    say_salvaged(out, r.map(|_| ()), wrote(r), salvaged, changes)
 }
 
 // Where bytes that were written from a place on end, in a buffer of this length.
@@ -176,7 +182,7 @@ fn salvage_pieces<W: Write>(
     w: Words,
 ) -> io::Result<()> {
     let cut = at_most(w.a, log.len());
-    let a = salvage(0, &log[..cut], salvaged, changes);
+    let a = wrote(salvage(0, &log[..cut], salvaged, changes));
     let m = at_most(a.log as u64, salvaged.len());
     let k = at_most(a.list as u64, changes.len());
     let b = salvage(
@@ -185,13 +191,12 @@ fn salvage_pieces<W: Write>(
         &mut salvaged[m..],
         &mut changes[k..],
     );
-    let answer = b.answer;
-    let both = Salvaged {
-        answer,
-        log: end_of(m, b.log, salvaged.len()),
-        list: end_of(k, b.list, changes.len()),
+    let more = wrote(b);
+    let both = Lengths {
+        log: end_of(m, more.log, salvaged.len()),
+        list: end_of(k, more.list, changes.len()),
     };
-    say_salvaged(out, both, salvaged, changes)
+    say_salvaged(out, b.map(|_| ()), both, salvaged, changes)
 }
 
 fn run_into<W: Write>(
@@ -225,7 +230,7 @@ fn obey_all<W: Write>(out: &mut W, input: &[u8]) -> io::Result<()> {
     while at < input.len() {
         let end = line_end(input, at);
         let w = words_of(&input[at..end]);
-        say_comment(out, &input[at..end], w.letter)?;
+        say_comment(out, &input[at..end])?;
         log = log.obey(w);
         run(out, log, w)?;
         at = after(input, end);

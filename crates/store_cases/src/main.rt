@@ -7,11 +7,11 @@
 
 ghost use Rattle.std.specs.Prelude.{◌<◌, ◌≤◌, length};
 
-use answer::Answer;
+use answer::Refusal;
 use board::Board;
 use cases::{
-    Words, after, at_most, end_line, line_end, read_input, say_answer, say_comment, say_left,
-    say_untouched, say_written, words_of,
+    Words, at_most, end_line, read_input, say_answer, say_comment, say_left, say_untouched,
+    say_written, words_of,
 };
 use history::{Store, WORDS};
 use settings::Settings;
@@ -22,160 +22,107 @@ fn word(n: u64) -> u16 {
     (n % 65536) as u16
 }
 
-fn set_words(mut store: Store, i: usize, value: u16, more: usize) -> Store
+fn set_words(store: &mut Store, i: usize, value: u16, more: usize)
     requires { (i < 1024) × (more < 1024) }
 {
-    for k in 0..more + 1 {
-        store.words[(i + k) % WORDS] = value;
+    for k in i..=i + more {
+        store.words[k % WORDS] = value;
     }
-    store
-}
-
-fn set_oldest(mut store: Store, place: u64) -> Store {
-    store.oldest = place as usize;
-    store
-}
-
-fn set_used(mut store: Store, used: u64) -> Store {
-    store.used = used as usize;
-    store
-}
-
-fn are_same_words(a: [u16; 1024], b: [u16; 1024]) -> bool {
-    let mut same = true;
-    for k in 0..WORDS {
-        same = same & (a[k] == b[k]);
-    }
-    same
-}
-
-fn is_same(a: Store, b: Store) -> bool {
-    let v = a.words;
-    let w = b.words;
-    (a.oldest == b.oldest) & (a.used == b.used) & are_same_words(v, w)
 }
 
 // The bytes that a read-out needs, as it tells where it gets no room.
-fn needed(store: Store) -> usize {
-    let mut none = [0u8; 1];
-    let a = store.read(&mut none[..0]);
-    match a {
-        Answer::Room(n) => n,
+fn needed(store: &Store) -> usize {
+    match store.read(&mut []) {
+        Err(Refusal::Room(bytes)) => bytes,
         _ => 0,
     }
 }
 
-// Where the read-out of a store ends in a buffer with this room; a refused one writes nothing.
-fn read_end(store: Store, done: bool, room: usize) -> usize
-    ensures { result ≤ room }
-{
-    if done {
-        return at_most(needed(store) as u64, room);
-    }
-    0
-}
-
-// Reads out into the first bytes of a buffer, and tells what was written.
-fn read_into<W: Write>(to: &mut W, store: Store, out: &mut [u8], room: usize) -> io::Result<()>
+// Reads out into the first bytes of a buffer, and tells what was written: a refused read-out writes nothing.
+fn read_into<W: Write>(to: &mut W, store: &Store, out: &mut [u8], room: usize) -> io::Result<()>
     requires { room ≤ length out.old }
 {
-    let a = store.read(&mut out[..room]);
-    let done = a.is_done();
-    say_answer(to, b"answer ", a)?;
-    say_written(to, b", buffer", out, done, read_end(store, done, room), 7)
+    let answer = store.read(&mut out[..room]);
+    let done = answer.is_ok();
+    let end = if done { needed(store).min(room) } else { 0 };
+    say_answer(to, b"answer ", answer)?;
+    say_written(to, b", buffer", out, done, end, 7)
 }
 
-fn read_out<W: Write>(to: &mut W, store: Store, room: usize) -> io::Result<()>
-    requires { room ≤ 480 }
-{
-    let mut out = [170u8; 480];
-    read_into(to, store, &mut out, room)
-}
-
-// Four crossings in which every input carries code 8, so that each is believed to from the second on.
-fn four_crossings() -> [u8; 96] {
-    let mut log = [0x88u8; 96];
-    for k in 0..4 {
-        let at = 24 * k;
-        log[at] = 0;
-        log[at + 1] = 0;
-        log[at + 2] = 0;
-        log[at + 3] = 8;
-    }
-    log
+// A crossing in which every input carries code 8: of four of them, each is believed to from the second on.
+fn crossing() -> [u8; 24] {
+    let mut record = [0x88; 24];
+    record[..4].copy_from_slice(&[0, 0, 0, 8]);
+    record
 }
 
 fn fresh_board() -> Board {
-    let made = Board::fresh(Settings::standard());
-    made.board
+    Board::fresh(Settings::standard()).board
 }
 
 // Its next crossing has a number that no orbit has.
 fn unsound_board() -> Board {
     let mut board = fresh_board();
-    let mut clock = board.clock;
-    clock.next = 5000;
-    board.clock = clock;
+    board.clock.next = 5000;
     board
 }
 
-fn run_block<W: Write>(out: &mut W, board: Board, store: Store, input: u64) -> io::Result<Store> {
-    let log = four_crossings();
-    let mut rows = [170u8; 48];
-    let r = beside::block(board, store, input as usize, &log, &mut rows);
-    let a = r.answer;
-    let next = r.board;
-    let left = r.store;
-    say_answer(out, b"answer ", a)?;
+fn run_block<W: Write>(
+    out: &mut W,
+    mut board: Board,
+    store: &mut Store,
+    input: u64,
+) -> io::Result<()> {
+    let log = [crossing(); 4];
+    let mut rows = [170; 48];
+    let crossings = board.clock.crossings;
+    let before = *store;
+    let answer = beside::block(
+        &mut board,
+        store,
+        input as usize,
+        log.as_flattened(),
+        &mut rows,
+    );
+    say_answer(out, b"answer ", answer)?;
     // Every crossing is counted, so the count tells whether the board was run.
-    let kept = board.clock.crossings == next.clock.crossings;
-    say_left(out, b", board", kept)?;
-    say_left(out, b", store", is_same(store, left))?;
-    say_untouched(out, b", rows", &rows, 0)?;
-    end_line(out)?;
-    Ok(left)
+    say_left(out, b", board", board.clock.crossings == crossings)?;
+    say_left(out, b", store", *store == before)?;
+    say_untouched(out, b", rows", &rows)?;
+    end_line(out)
 }
 
-fn say_read_out<W: Write>(out: &mut W, store: Store, w: Words) -> io::Result<()> {
-    if w.letter == b'r' {
-        read_out(out, store, at_most(w.a, 480))?;
+// Does what a line tells.
+fn obey<W: Write>(out: &mut W, store: &mut Store, w: Words) -> io::Result<()> {
+    match w.letter {
+        b'n' => *store = Store::fresh(),
+        b'w' => set_words(
+            store,
+            at_most(w.a, WORDS - 1),
+            word(w.b),
+            at_most(w.c, WORDS - 1),
+        ),
+        b'o' => store.oldest = w.a as usize,
+        b'u' => store.used = w.a as usize,
+        b'r' => read_into(out, store, &mut [170; 480], at_most(w.a, 480))?,
+        b'b' => run_block(out, fresh_board(), store, w.a)?,
+        b'x' => run_block(out, unsound_board(), store, w.a)?,
+        _ => {}
     }
     Ok(())
 }
 
-// The store after a line.
-fn obey<W: Write>(out: &mut W, store: Store, w: Words) -> io::Result<Store> {
-    let letter = w.letter;
-    match letter {
-        b'n' => Ok(Store::fresh()),
-        b'w' => {
-            let more = at_most(w.c, 1023);
-            Ok(set_words(store, at_most(w.a, 1023), word(w.b), more))
-        }
-        b'o' => Ok(set_oldest(store, w.a)),
-        b'u' => Ok(set_used(store, w.a)),
-        b'b' => run_block(out, fresh_board(), store, w.a),
-        b'x' => run_block(out, unsound_board(), store, w.a),
-        _ => Ok(store),
-    }
-}
-
 fn obey_all<W: Write>(out: &mut W, input: &[u8]) -> io::Result<()> {
     let mut store = Store::fresh();
-    let mut at = 0;
-    while at < input.len() {
-        let end = line_end(input, at);
-        let w = words_of(&input[at..end]);
-        say_comment(out, &input[at..end], w.letter)?;
-        say_read_out(out, store, w)?;
-        store = obey(out, store, w)?;
-        at = after(input, end);
+    for line in input.split(|b| *b == b'\n') {
+        say_comment(out, line)?;
+        obey(out, &mut store, words_of(line))?;
     }
     Ok(())
 }
 
 fn main(rt: HostRuntime) -> io::Result<()> {
-    let mut input = [0u8; 8192];
+    let mut input = [0; 8192];
     let n = read_input(rt.stdin(), &mut input)?;
     obey_all(&mut io::writer(&rt), &input[..n])
 }
