@@ -7,8 +7,6 @@ ghost use Rattle.steady.specs.Steady.{steady, steady_byte, believed_of};
 ghost use Rattle.steady.specs.Held.{fresh_held, sound_held};
 ghost use Rattle.steady.specs.Support.News.{news_of};
 
-use std::array;
-
 // Two codes of each input, laid out as the code bytes of a record: the last that it carried and the last that was believed.
 #[derive(Clone, Copy, Debug, PartialEq, Eq)]
 pub struct Held {
@@ -66,12 +64,14 @@ impl Held {
         words::same(&self.carried, &self.believed)
     }
 
-    // What is believed after a crossing with these codes.
-    fn after(&self, codes: &[u8]) -> [u8; 21]
+    // Moves on what is believed, in place: a table made beside it would be copied.
+    fn believe(&mut self, codes: &[u8])
         requires { length codes.now ≡ 21 }
-        ensures { result ≡ believed_of self.now.carried self.now.believed codes.now }
+        ensures { (self.new.believed ≡ believed_of self.old.carried self.old.believed codes.now) × (self.new.carried ≡ self.old.carried) }
     {
-        array::from_fn(|k| byte(self.carried[k], self.believed[k], codes[k]))
+        for k in 0..21 {
+            self.believed[k] = byte(self.carried[k], self.believed[k], codes[k]);
+        }
     }
 
     // The held codes after a crossing with these codes. Most crossings carry what the one before carried and what is believed
@@ -88,7 +88,7 @@ impl Held {
             };
         }
         let before = self.believed;
-        self.believed = self.after(codes);
+        self.believe(codes);
         self.carried.copy_from_slice(codes);
         News {
             stays: words::same(&before, &self.believed),

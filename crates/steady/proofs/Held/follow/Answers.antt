@@ -28,4 +28,4 @@ returns-then-same c =
 pub returns : goal.returns
 returns c =
     let s = c.args.self.now in
-    (told s.carried s.believed c.args.codes.now _ _ _ c.same-same.ensures.same c.after-self.ensures c.same.ensures.same, c.after-self.ensures, c.copy_from_slice.ensures.after)
+    (told s.carried s.believed c.args.codes.now _ _ _ c.same-same.ensures.same c.believe.ensures.0 c.same.ensures.same, c.believe.ensures.0, c.copy_from_slice.ensures.after)
