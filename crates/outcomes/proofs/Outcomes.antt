@@ -1,12 +1,12 @@
 -- One input, one outcome: two outcomes that meet a contract are seen as the same, and what is seen of an outcome determines it.
 -- An answer is determined by what it tells; a line that was read, by what is said of it (`line_known`).
-use mathlib.Core.Path.{◌≡◌, sym, ap, ap₂, ◌∙◌}
+use mathlib.Core.Path.{◌≡◌, refl, sym, ap, ap₂, ◌∙◌}
 use mathlib.Core.Bool.{false≢true}
 use mathlib.Core.List.{List}
 use Prim.Native.Nat.{ℕ}
 use Rattle.std.specs.Prelude.{Result, Ok, Err}
 use Rattle.answer.specs.declared.Refusal.{Refusal}
-use Rattle.answer.specs.Told.{Told, Answer, told, told_refusal, succeeded}
+use Rattle.answer.specs.Told.{Told, Answer, told, succeeded}
 use Rattle.answer.proofs.Told.{told_one, refused, is_ok_told}
 use Rattle.text.proofs.Known.{line_known}
 use Rattle.settings.specs.declared.Settings.{Settings}
@@ -108,18 +108,27 @@ one_beside d a b p q =
     (ap (λ (o : BesideOut). (o.answer, (o.board, (o.store, o.rows)))) (p ∙ sym q))
 
 -- a salvage that was done tells the lengths, and one that was refused the refusal
-one_written_log : (r q : Result Lengths Refusal) (s c t d : List ℕ) → salvage_out r s c ≡ salvage_out q t d → r ≡ q
-one_written_log (Ok a) (Ok b) s c t d e = ap₂ (λ (m n : ℕ). Ok (record { log = m; list = n })) (ap (λ (o : SalvageOut). o.log) e) (ap (λ (o : SalvageOut). o.list) e)
-one_written_log (Ok a) (Err y) s c t d e = absurd (false≢true (sym (ap (λ (o : SalvageOut). succeeded o.answer) e ∙ refused y)))
-one_written_log (Err x) (Ok b) s c t d e = absurd (false≢true (sym (refused x) ∙ ap (λ (o : SalvageOut). succeeded o.answer) e))
-one_written_log (Err x) (Err y) s c t d e = ap (λ (a : Answer). as_salvage a) (told_one (Err x) (Err y) (ap (λ (o : SalvageOut). o.answer) e))
+one_told : (r q : Result Lengths Refusal) (s c t d : List ℕ) → salvage_out r s c ≡ salvage_out q t d → r ≡ q
+one_told (Ok a) (Ok b) s c t d e = ap₂ (λ (m n : ℕ). Ok (record { log = m; list = n })) (ap (λ (o : SalvageOut). o.log) e) (ap (λ (o : SalvageOut). o.list) e)
+one_told (Ok a) (Err y) s c t d e = absurd (false≢true (sym (ap (λ (o : SalvageOut). succeeded o.answer) e ∙ refused y)))
+one_told (Err x) (Ok b) s c t d e = absurd (false≢true (sym (refused x) ∙ ap (λ (o : SalvageOut). succeeded o.answer) e))
+one_told (Err x) (Err y) s c t d e = ap (λ (a : Answer). as_salvage a) (told_one (Err x) (Err y) (ap (λ (o : SalvageOut). o.answer) e))
   where
     as_salvage : Answer → Result Lengths Refusal
     as_salvage (Ok done) = Err x
     as_salvage (Err z) = Err z
 
+buffers : (r : Result Lengths Refusal) (s c : List ℕ) → ((salvage_out r s c).salvaged ≡ s) × ((salvage_out r s c).changes ≡ c)
+buffers (Ok written) s c = (refl, refl)
+buffers (Err refusal) s c = (refl, refl)
+
 one_salvage : (d : SalvageOut) → One (λ (o : Result Lengths Refusal × (List ℕ × List ℕ)). salvage_out o.0 o.1.0 o.1.1 ≡ d)
-one_salvage d a b p q = ?
+one_salvage d a b p q =
+    let e = p ∙ sym q in
+    let m = buffers a.0 a.1.0 a.1.1 in
+    let n = buffers b.0 b.1.0 b.1.1 in
+    ap₂ (λ (x : Result Lengths Refusal) (y : List ℕ × List ℕ). (x, y)) (one_told a.0 b.0 a.1.0 a.1.1 b.1.0 b.1.1 e)
+    (ap₂ (λ (x y : List ℕ). (x, y)) (sym m.0 ∙ ap (λ (o : SalvageOut). o.salvaged) e ∙ n.0) (sym m.1 ∙ ap (λ (o : SalvageOut). o.changes) e ∙ n.1))
 
 -- ---- a pen and its words, by the store that they stand for and its scan
 
