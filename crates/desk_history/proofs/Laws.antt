@@ -8,8 +8,7 @@ use native.Mathlib.Omega.{arith}
 use borrow.Author.Tests.{le-leb}
 use lib.ListN.{length, take, drop, replicate, length-append, length-take}
 use lib.Seq.{take_at}
-use Rattle.answer.specs.declared.Answer.{Answer}
-use Rattle.answer.specs.Told.{told, succeeded, DONE}
+use Rattle.answer.specs.Told.{Answer, told, succeeded, DONE}
 use Rattle.answer.proofs.Told.{told_done}
 use Rattle.records.specs.Refusal.{records_in, Ready}
 use Rattle.text.specs.Bytes.{put}
@@ -22,7 +21,6 @@ use Rattle.history.proofs.Keeps.{read_fits}
 use Rattle.history.proofs.Recall.{fresh_sound}
 use Rattle.board.specs.declared.Board.{Board}
 use Rattle.board.specs.declared.Made.{Made}
-use Rattle.board.specs.declared.Ran.{Ran}
 use Rattle.board.specs.Sound.{sound_board}
 use Rattle.board.specs.Run.{ran}
 use Rattle.board.specs.Fresh.{MadeOut}
@@ -84,12 +82,12 @@ module _ (fresh : Board) (w : Whole fresh) (sound : sound_board fresh ≡ true) 
     whole = record { ptcs = fit.ptcs; marks = fit.marks }
 
     -- a piece that was accepted
-    module _ (piece rows after : List ℕ) (r : Ran) (ran_so : ran_out r after ≡ in_blocks (blocks_in piece) b piece rows) (d : succeeded (told r.answer) ≡ true) where
+    module _ (piece rows after : List ℕ) (r : Answer) (next : Board) (ran_so : ran_out r next after ≡ in_blocks (blocks_in piece) b piece rows) (d : succeeded (told r) ≡ true) where
       here : Accepted b piece rows
-      here = accepted b piece rows whole fit.sound (sym (ap (λ (o : RanOut). o.answer) ran_so) ∙ told_done r.answer d)
+      here = accepted b piece rows whole fit.sound (sym (ap (λ (o : RanOut). o.answer) ran_so) ∙ told_done r d)
 
       pub piece_through : length after ≡ length rows → Through b piece after
-      piece_through same = run_through b piece rows after r fit.ptcs (ran_so ∙ here.whole) same d
+      piece_through same = run_through b piece rows after r next (ran_so ∙ here.whole) same d
 
       pub piece_followed : (x : ℕ) (s : Store) → s ≡ followed x fresh so.log fresh_store → followed x b piece s ≡ followed x fresh (so.log ++ piece) fresh_store
       piece_followed x s e =
@@ -110,41 +108,41 @@ begun x b = record { so = record { log = []; whole = refl; done = refl; board = 
 
 -- n bytes were read into a piece's room, run, and followed
 module _ (x : ℕ) (fresh b : Board) (w : Whole fresh) (sound : sound_board fresh ≡ true) (s : Store) (g : SoFarBeside x fresh b s) (n : ℕ) (bytes rows after : List ℕ)
-    (fits : length bytes ≡ 61440) (room : length rows ≡ 30720) (same : length after ≡ length rows) (r : Ran) where
+    (fits : length bytes ≡ 61440) (room : length rows ≡ 30720) (same : length after ≡ length rows) (r : Answer) (next : Board) where
   abbrev piece : List ℕ
   piece = take n bytes
 
   -- an accepted piece may be followed
-  pub may_follow : (failed : Bool) → ran_out r after ≡ piece_run failed b piece rows → failed ≡ false → succeeded (told r.answer) ≡ true → Through b piece after
+  pub may_follow : (failed : Bool) → ran_out r next after ≡ piece_run failed b piece rows → failed ≡ false → succeeded (told r) ≡ true → Through b piece after
   may_follow true ran_so e d = absurd (false≢true (sym e))
-  may_follow false ran_so e d = piece_through fresh w sound b g.so piece rows after r ran_so d same
+  may_follow false ran_so e d = piece_through fresh w sound b g.so piece rows after r next ran_so d same
 
   -- the answer of the longer log
-  answered : ran_out r after ≡ in_blocks (blocks_in piece) b piece rows → told r.answer ≡ (replayed fresh (g.so.log ++ piece)).answer
+  answered : ran_out r next after ≡ in_blocks (blocks_in piece) b piece rows → told r ≡ (replayed fresh (g.so.log ++ piece)).answer
   answered ran_so = ap (λ (o : RanOut). o.answer) ran_so ∙ (more fresh b g.so w.ptcs n bytes rows fits room).answer
 
-  stored : ran_out r after ≡ in_blocks (blocks_in piece) b piece rows → (kept : Store) → kept ≡ kept_after x b false (told r.answer) piece s
-      → succeeded (told r.answer) ≡ true → kept ≡ followed x fresh (g.so.log ++ piece) fresh_store
-  stored ran_so kept e d = e ∙ rw d (piece_followed fresh w sound b g.so piece rows after r ran_so d x s g.store)
+  stored : ran_out r next after ≡ in_blocks (blocks_in piece) b piece rows → (kept : Store) → kept ≡ kept_after x b false (told r) piece s
+      → succeeded (told r) ≡ true → kept ≡ followed x fresh (g.so.log ++ piece) fresh_store
+  stored ran_so kept e d = e ∙ rw d (piece_followed fresh w sound b g.so piece rows after r next ran_so d x s g.store)
 
-  pub last_followed : (failed : Bool) → ran_out r after ≡ piece_run failed b piece rows → (kept : Store) → sound_store kept ≡ true
-      → kept ≡ kept_after x b failed (told r.answer) piece s → FollowedSomeLog x fresh r.answer kept
+  pub last_followed : (failed : Bool) → ran_out r next after ≡ piece_run failed b piece rows → (kept : Store) → sound_store kept ≡ true
+      → kept ≡ kept_after x b failed (told r) piece s → FollowedSomeLog x fresh r kept
   last_followed true ran_so kept ok e =
       record { log = g.so.log; answer = ap (λ (o : RanOut). o.answer) ran_so ∙ sym g.so.done; sound = ok; store = λ d. e ∙ g.store }
   last_followed false ran_so kept ok e =
       record { log = g.so.log ++ piece; answer = answered ran_so; sound = ok; store = λ d. stored ran_so kept e (ap succeeded d) }
 
-  pub goes_on_followed : (failed : Bool) → ran_out r after ≡ piece_run failed b piece rows → is_full failed n (told r.answer) ≡ true → (kept : Store)
-      → sound_store kept ≡ true → kept ≡ kept_after x b failed (told r.answer) piece s → SoFarBeside x fresh r.board kept
+  pub goes_on_followed : (failed : Bool) → ran_out r next after ≡ piece_run failed b piece rows → is_full failed n (told r) ≡ true → (kept : Store)
+      → sound_store kept ≡ true → kept ≡ kept_after x b failed (told r) piece s → SoFarBeside x fresh next kept
   goes_on_followed true ran_so full kept ok e = absurd (false≢true full)
   goes_on_followed false ran_so full kept ok e =
-      let is = full_piece false n (told r.answer) full in
+      let is = full_piece false n (told r) full in
       let m = more fresh b g.so w.ptcs n bytes rows fits room in
       record {
         so = record {
           log = g.so.log ++ piece;
           whole = rw (length-append, length-take) (omega (arith, g.so.whole));
-          done = sym (answered ran_so) ∙ told_done r.answer is.2;
+          done = sym (answered ran_so) ∙ told_done r is.2;
           board = sym (ap (λ (o : RanOut). o.board) ran_so ∙ m.board);
         };
         sound = ok;

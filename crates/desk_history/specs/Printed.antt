@@ -2,8 +2,7 @@
 -- can say which bytes a file holds, but what is printed is decided by them.
 use Rattle.std.specs.Prelude.{ℕ, ◌≡◌, Bool, true, List, leb}
 use Rattle.laws.specs.Base.{if}
-use Rattle.answer.specs.declared.Answer.{Answer}
-use Rattle.answer.specs.Told.{Told, told, succeeded, DONE, RANGE}
+use Rattle.answer.specs.Told.{Told, Answer, told, succeeded, DONE, RANGE}
 use Rattle.history.specs.declared.Store.{Store}
 use Rattle.history.specs.Store.{fresh_store, sound_store}
 use Rattle.history.specs.Read.{read_bytes}

@@ -9,9 +9,10 @@ ghost use Rattle.board.specs.Sound.{sound_board};
 ghost use Rattle.beside.specs.Support.Through.{Through};
 ghost use Rattle.desk_history.specs.Printed.{kept_after, OpenedBy, FollowedSomeLog, Closing, OfSomeFiles};
 
-use answer::Answer;
+use answer::{Answer, Refusal};
 use beside::LAST_INPUT;
 use board::Board;
+use ending::Stop;
 use history::Store;
 use shell::{PIECE, Step};
 use std::env::FillError;
@@ -19,7 +20,7 @@ use std::io;
 use std::io::{Error, ErrorKind, Read, Write};
 use std::process::ExitCode;
 use std::rt::{Env, Files};
-use text::{Line, Range};
+use text::Range;
 
 const USAGE: &[u8] = b"usage: desk_history INPUT\n";
 
@@ -31,22 +32,22 @@ struct Pass {
     store: Store,
 }
 
-// The store after a piece: one that was not read, or is refused, leaves it.
-fn kept_after(
+// The store after a piece that was run over the board: one that was not read, or is refused, leaves it.
+fn follow_piece(
     board: Board,
-    store: Store,
+    store: &mut Store,
     input: usize,
     step: Step,
     piece: &[u8],
     rows: &[u8],
-) -> Store
-    requires { (is_some step.got.failed ≡ false → succeeded (told step.ran.answer) ≡ true → Through board piece.now rows.now) × (sound_store store ≡ true) × (input ≤ 40) }
-    ensures { (result ≡ kept_after input board (is_some step.got.failed) (told step.ran.answer) piece.now store) × (sound_store result ≡ true) }
+)
+    requires { (is_some step.got.failed ≡ false → succeeded (told step.answer) ≡ true → Through board piece.now rows.now) × (sound_store store.old ≡ true) × (input ≤ 40) }
+    ensures { (store.new ≡ kept_after input board (is_some step.got.failed) (told step.answer) piece.now store.old) × (sound_store store.new ≡ true) }
 {
     if step.got.failed.is_some() {
-        return store;
+        return;
     }
-    beside::keep_if(step.ran.answer, board, store, input, piece, rows)
+    beside::keep_if(step.answer, board, store, input, piece, rows);
 }
 
 // Follows the input through the log. No file has as many pieces as the loop has turns.
@@ -54,108 +55,82 @@ fn go_through<R: Read>(log: &mut Option<R>, fresh: Board, input: usize) -> Pass
     requires { (sound_board fresh ≡ true) × (input ≤ 40) }
     ensures { FollowedSomeLog input fresh result.answer result.store }
 {
-    let mut piece = [0u8; PIECE];
-    let mut rows = [0u8; PIECE / 2];
+    let mut piece = [0; PIECE];
+    let mut rows = [0; PIECE / 2];
     let mut board = fresh;
     let mut store = Store::fresh();
     for _ in 0..u64::MAX {
-        let step = shell::run_piece(board, log, &mut piece, &mut rows);
-        let n = step.got.count;
-        let kept = kept_after(board, store, input, step, &piece[..n], &rows);
+        let before = board;
+        let step = shell::run_piece(&mut board, log, &mut piece, &mut rows);
+        let read = &piece[..step.got.count];
+        follow_piece(before, &mut store, input, step, read, &rows);
         if !step.is_full() {
             return Pass {
                 failed: step.got.failed,
-                answer: step.ran.answer,
-                store: kept,
+                answer: step.answer,
+                store,
             };
         }
-        board = step.ran.board;
-        store = kept;
     }
     Pass {
         failed: Some(Error::from(ErrorKind::FileTooLarge)),
-        answer: Answer::Done,
+        answer: Ok(()),
         store,
     }
 }
 
 // The read-out at the front of a buffer that has room for every read-out, and how many bytes it has: what is printed for some text and
 // some log. Reading is never refused here.
-fn lay_history(store: Store, input: usize, out: &mut [u8]) -> usize
-    requires { (Closing input store) × (7168 ≤ length out.old) }
+fn lay_history(store: &Store, input: usize, out: &mut [u8]) -> usize
+    requires { (Closing input store.now) × (7168 ≤ length out.old) }
     ensures { (result ≤ length out.new) × (OfSomeFiles input (take result out.new)) }
 {
-    store.read(out);
+    let _ = store.read(out);
     store.read_length()
 }
 
-fn print_history<W: Write>(to: &mut W, store: Store, input: usize) -> io::Result<()>
-    requires { Closing input store }
+fn print_history<W: Write>(to: &mut W, store: &Store, input: usize) -> Result<(), Stop>
+    requires { Closing input store.now }
 {
-    let mut out = [0u8; 7168];
+    let mut out = [0; 7168];
     let n = lay_history(store, input, &mut out);
     to.write_all(&out[..n])
+        .map_err(|error| Stop::At("standard output", error))
 }
 
-// The history of an input that there is.
-fn tell<R: Files + Print + Eprint>(rt: &R, fresh: Board, input: usize) -> ExitCode
-    requires { (OpenedBy fresh) × (input ≤ 40) }
-{
-    let mut log = files::open(rt, "run.rec");
-    let pass = go_through(&mut log, fresh, input);
-    if ending::is_over(rt, b"run.rec", pass.failed, pass.answer) {
-        return ExitCode::FAILURE;
-    }
-    ending::finish(rt, print_history(&mut io::writer(rt), pass.store, input))
-}
-
-fn follow<R: Files + Print + Eprint>(rt: &R, input: usize) -> ExitCode {
-    let mut text = files::open(rt, "board.set");
-    let opened = shell::open_board(&mut text);
-    let made = opened.made;
-    if ending::is_over(rt, b"board.set", opened.failed, made.answer) {
-        return ExitCode::FAILURE;
-    }
+fn run<R: Files + Print>(rt: &R, input: usize) -> Result<(), Stop> {
+    let opened = shell::open_board(&mut files::open(rt, "board.set"));
+    ending::accepted("board.set", opened.failed, opened.made.answer)?;
     if LAST_INPUT < input {
-        return ending::refuse(rt, Answer::Range(input));
+        return Err(Stop::Refused(Refusal::Range(input)));
     }
-    tell(rt, made.board, input)
+    let mut log = files::open(rt, "run.rec");
+    let pass = go_through(&mut log, opened.made.board, input);
+    ending::accepted("run.rec", pass.failed, pass.answer)?;
+    print_history(&mut io::writer(rt), &pass.store, input)
 }
 
-// What was read of the argument, and whether that is all of it.
-fn obey<R: Files + Print + Eprint>(rt: &R, line: Line, end: usize, only: bool) -> ExitCode {
-    match line {
-        Line::Value(input, next) => {
-            if plain::both(only, next == end) {
-                follow(rt, input as usize)
-            } else {
-                ending::misuse(rt, USAGE)
-            }
-        }
-        Line::Ill => ending::misuse(rt, USAGE),
-        Line::Out => ending::misuse(rt, USAGE),
-    }
-}
-
-// The number that n bytes before a newline are, read as one of the settings text is.
-fn number_of(arg: &[u8], n: usize) -> Line {
-    if arg.len() <= n {
-        return Line::Ill;
+// The input that the only argument names, a number as the settings text has them. An argument that has no room before a newline has
+// more digits than any number.
+fn input_of(rt: &impl Env) -> Option<usize> {
+    let mut arg = [b'\n'; 16];
+    let n = rt.arg(1, &mut arg).ok()?;
+    let only = matches!(rt.arg(2, &mut []), Err(FillError::NotPresent));
+    if !only || arg.len() <= n {
+        return None;
     }
     let range = Range {
         low: 0,
-        high: 99999999,
+        high: 99_999_999,
         digits: 8,
     };
-    text::read_line(&arg[..n + 1], 0, b"", range)
+    let (input, next) = text::read_line(&arg[..n + 1], 0, b"", range).ok()?;
+    (next == n + 1).then_some(input as usize)
 }
 
-// An argument that has no room before a newline has more digits than any number.
 fn main(rt: HostRuntime) -> ExitCode {
-    let mut arg = [10u8; 16];
-    let Ok(n) = rt.arg(1, &mut arg) else {
+    let Some(input) = input_of(&rt) else {
         return ending::misuse(&rt, USAGE);
     };
-    let only = matches!(rt.arg(2, &mut []), Err(FillError::NotPresent));
-    obey(&rt, number_of(&arg, n), n.saturating_add(1), only)
+    ending::end(&rt, run(&rt, input))
 }

@@ -6,6 +6,6 @@ pub returns : goal.returns
 returns c =
     let w = c.read in
     let n = c.read_length in (
-      laid_long c.args.input c.args.store c.requires.0 c.args.out.now _ c.requires.1 w.result w.ensures n.result n.ensures,
-      laid_are c.args.input c.args.store c.requires.0 c.args.out.now _ c.requires.1 w.result w.ensures n.result n.ensures,
+      laid_long c.args.input c.args.store.now c.requires.0 c.args.out.now _ c.requires.1 w.result w.ensures n.result n.ensures,
+      laid_are c.args.input c.args.store.now c.requires.0 c.args.out.now _ c.requires.1 w.result w.ensures n.result n.ensures,
     )
