@@ -7,10 +7,12 @@ ghost use Rattle.shell.specs.Logs.{AnswerToSomeLog};
 
 use answer::Answer;
 use board::Board;
+use ending::Stop;
 use shell::{PIECE, Step};
 use std::io;
 use std::io::{Error, ErrorKind, Read, Write};
 use std::process::ExitCode;
+use std::rt::Files;
 
 // What one time through the log gives. Two times are held against each other by their bytes and the sum of their rows.
 #[derive(Clone, Copy)]
@@ -96,30 +98,35 @@ fn go_through<R: Read, W: Write>(
     unread
 }
 
-// The log stays open while it is opened again, so that one can see from outside how far each reading is (tools/progress).
-fn main(rt: HostRuntime) -> ExitCode {
-    let mut text = files::open(&rt, "board.set");
+// Writes the rows, and answers whether the log was the same in both readings. The log stays open while it is opened again, so that
+// one can see from outside how far each reading is (tools/progress).
+fn run<R: Files + Print>(rt: &R) -> Result<bool, Stop> {
+    let mut text = files::open(rt, "board.set");
     let opened = shell::open_board(&mut text);
-    let made = opened.made;
-    if ending::is_over(&rt, b"board.set", opened.failed, made.answer) {
-        return ExitCode::FAILURE;
-    }
-    let mut out = io::writer(&rt);
-    let mut log = files::open(&rt, "run.rec");
-    let first = go_through(&mut log, made.board, false, &mut out);
-    if ending::is_over(&rt, b"run.rec", first.failed, first.answer) {
-        return ExitCode::FAILURE;
-    }
-    let mut again = files::open(&rt, "run.rec");
-    let second = go_through(&mut again, made.board, true, &mut out);
+    ending::accepted("board.set", opened.failed, opened.made.answer)?;
+    let fresh = opened.made.board;
+    let mut out = io::writer(rt);
+    let mut log = files::open(rt, "run.rec");
+    let first = go_through(&mut log, fresh, false, &mut out);
+    ending::accepted("run.rec", first.failed, first.answer)?;
+    let mut again = files::open(rt, "run.rec");
+    let second = go_through(&mut again, fresh, true, &mut out);
     if let Some(error) = second.failed {
-        return ending::stop(&rt, b"run.rec", error);
+        return Err(Stop::At("run.rec", error));
     }
-    if second.written.is_err() || first.is_same(&second) {
-        return ending::finish(&rt, second.written);
+    match second.written {
+        Ok(()) => Ok(first.is_same(&second)),
+        Err(error) => Err(Stop::At("standard output", error)),
     }
-    ending::complain(
-        &rt,
-        b"run.rec: changed between its two readings: the rows are of no use\n",
-    )
+}
+
+fn main(rt: HostRuntime) -> ExitCode {
+    match run(&rt) {
+        Ok(true) => ExitCode::SUCCESS,
+        Ok(false) => ending::complain(
+            &rt,
+            b"run.rec: changed between its two readings: the rows are of no use\n",
+        ),
+        Err(stop) => ending::end(&rt, Err(stop)),
+    }
 }
