@@ -7,6 +7,7 @@ ghost use Rattle.editions.specs.Support.Prefix.{text_most};
 ghost use Rattle.desk_edition.specs.Printed.{ReadOfSome, Upgrading, OfSomeText};
 
 use editions::Read;
+use ending::Stop;
 use settings::Settings;
 use std::io;
 use std::io::{Error, Write};
@@ -50,12 +51,17 @@ fn print_text<W: Write>(out: &mut W, s: &Settings) -> io::Result<()>
     out.write_all(&text[..n])
 }
 
-fn main(rt: HostRuntime) -> ExitCode {
-    let mut file = files::open(&rt, "board.set");
+fn run(rt: &HostRuntime) -> Result<(), Stop> {
+    let mut file = files::open(rt, "board.set");
     let opened = open_settings(&mut file);
     let read = opened.read;
-    if ending::is_over(&rt, b"board.set", opened.failed, read.answer) {
-        return ExitCode::FAILURE;
-    }
-    ending::finish(&rt, print_text(&mut io::writer(&rt), &read.settings))
+    ending::accepted("board.set", opened.failed, read.answer)?;
+    print_text(&mut io::writer(rt), &read.settings).map_err(|error| Stop::At(
+        "standard output",
+        error,
+    ))
+}
+
+fn main(rt: HostRuntime) -> ExitCode {
+    ending::end(&rt, run(&rt))
 }

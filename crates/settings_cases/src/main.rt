@@ -21,13 +21,11 @@ fn say_case<W: Write>(to: &mut W, name: &[u8], a: Answer) -> io::Result<()> {
 }
 
 fn plain(b: u8) -> u8 {
-    if b == b'/' {
-        return 10;
+    match b {
+        b'/' => b'\n',
+        b'^' => b'\r',
+        _ => b,
     }
-    if b == b'^' {
-        return 13;
-    }
-    b
 }
 
 // The part with newlines and carriage returns as they are, and how long it is.
@@ -46,7 +44,7 @@ fn find(text: &[u8], part: &[u8]) -> usize
     ensures { result ≤ length text.now }
 {
     for at in 0..text.len() {
-        if text::starts_with(text, at, part) {
+        if text[at..].starts_with(part) {
             return at;
         }
     }
@@ -61,7 +59,9 @@ fn put(out: &mut [u8], at: usize, s: &[u8]) -> usize
     if out.len() - at < s.len() {
         return at;
     }
-    text::put_bytes(out, at, s)
+    let end = at + s.len();
+    out[at..end].copy_from_slice(s);
+    end
 }
 
 // The text with `new` for the first `old`, and how long that is.
@@ -132,23 +132,25 @@ fn read_case<W: Write>(
     read_edited(to, name, base, &was[..n], &is[..m], &mut text)
 }
 
-// The name begins with the number of an older edition.
-fn read_named<W: Write>(
-    to: &mut W,
-    name: &[u8],
-    old: &[u8],
-    new: &[u8],
-    first: &[u8],
-    second: &[u8],
-    newest: &[u8],
-) -> io::Result<()> {
-    if text::starts_with(name, 0, b"1 ") {
-        return read_case(to, name, first, old, new);
+// The texts of the three editions.
+#[derive(Clone, Copy)]
+struct Bases<'a> {
+    first: &'a [u8],
+    second: &'a [u8],
+    newest: &'a [u8],
+}
+
+impl<'a> Bases<'a> {
+    // The name of a case begins with the number of an older edition.
+    fn of(self, name: &[u8]) -> &'a [u8] {
+        if name.starts_with(b"1 ") {
+            self.first
+        } else if name.starts_with(b"2 ") {
+            self.second
+        } else {
+            self.newest
+        }
     }
-    if text::starts_with(name, 0, b"2 ") {
-        return read_case(to, name, second, old, new);
-    }
-    read_case(to, name, newest, old, new)
 }
 
 // How many bytes are other than 7, which no settings text has.
@@ -159,13 +161,9 @@ fn changed(out: &[u8]) -> u64 {
 // The standard settings with another value on a line.
 fn with(line: usize, value: u32) -> Settings {
     let mut s = Settings::standard();
-    if line < 2 {
-        return s;
+    if (2..=148).contains(&line) {
+        s.values[line - 2] = value;
     }
-    if 148 < line {
-        return s;
-    }
-    s.values[line - 2] = value;
     s
 }
 
@@ -206,14 +204,7 @@ fn check_case<W: Write>(to: &mut W, name: &[u8], line: usize, value: u32) -> io:
     say_case(to, name, a)
 }
 
-fn read_cases<W: Write>(
-    to: &mut W,
-    input: &[u8],
-    from: usize,
-    first: &[u8],
-    second: &[u8],
-    newest: &[u8],
-) -> io::Result<()>
+fn read_cases<W: Write>(to: &mut W, input: &[u8], from: usize, bases: Bases) -> io::Result<()>
     requires { from ≤ length input.now }
 {
     let mut at = from;
@@ -223,15 +214,8 @@ fn read_cases<W: Write>(
         let b = line_end(input, old);
         let new = after(input, b);
         let c = line_end(input, new);
-        read_named(
-            to,
-            &input[at..a],
-            &input[old..b],
-            &input[new..c],
-            first,
-            second,
-            newest,
-        )?;
+        let name = &input[at..a];
+        read_case(to, name, bases.of(name), &input[old..b], &input[new..c])?;
         at = after(input, c);
     }
     Ok(())
@@ -250,17 +234,15 @@ fn reads<W: Write>(to: &mut W, input: &[u8]) -> io::Result<()> {
     let s = Settings::standard();
     let _ = editions::write_text(&s, &mut newest);
     let n = editions::text_length(&s);
-    if 4096 < n {
+    if newest.len() < n {
         return Ok(());
     }
-    read_cases(
-        to,
-        input,
-        after(input, c),
-        &first[..m],
-        &second[..k],
-        &newest[..n],
-    )
+    let bases = Bases {
+        first: &first[..m],
+        second: &second[..k],
+        newest: &newest[..n],
+    };
+    read_cases(to, input, after(input, c), bases)
 }
 
 fn writes<W: Write>(to: &mut W) -> io::Result<()> {
