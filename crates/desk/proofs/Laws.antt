@@ -7,11 +7,9 @@ use Prim.Native.Nat.{ℕ, ◌≤◌}
 use native.Mathlib.Omega.{arith}
 use lib.ListN.{length, take, drop, length-append}
 use lib.Seq.{take_at}
-use Rattle.answer.specs.declared.Answer.{Answer}
-use Rattle.answer.specs.Told.{told}
+use Rattle.answer.specs.Told.{Answer, told}
 use Rattle.board.specs.declared.Board.{Board}
 use Rattle.board.specs.declared.Made.{Made}
-use Rattle.board.specs.declared.Ran.{Ran}
 use Rattle.board.specs.Fresh.{MadeOut}
 use Rattle.board.specs.Block.{RanOut}
 use Rattle.report.specs.Report.{report_text, ReportOut, report_out, reported}
@@ -24,15 +22,15 @@ use Rattle.shell.specs.Opened.{OfSomeText}
 use Rattle.shell.specs.Logs.{OfSomeLog}
 use Rattle.desk.specs.Printed.{Closing, OfSomeFiles}
 
-pub closing : (m : Made) (r : Ran) (unread stopped : Bool) → OfSomeText m → OfSomeLog m.board r → over unread (told m.answer) ≡ false
-    → over stopped (told r.answer) ≡ false → Closing r.board
-closing m r unread stopped some of on through =
+pub closing : (m : Made) (a : Answer) (b : Board) (unread stopped : Bool) → OfSomeText m → OfSomeLog m.board a b → over unread (told m.answer) ≡ false
+    → over stopped (told a) ≡ false → Closing b
+closing m a b unread stopped some of on through =
     let same = ap (λ (o : MadeOut). replayed o.board of.0) some.1 in
     record {
       text = some.0;
       log = of.0;
       opens = sym (ap (λ (o : MadeOut). o.answer) some.1) ∙ went_on unread m.answer on;
-      through = sym (of.1 ∙ ap (λ (o : RanOut). o.answer) same) ∙ went_on stopped r.answer through;
+      through = sym (of.1 ∙ ap (λ (o : RanOut). o.answer) same) ∙ went_on stopped a through;
       is = of.2 ∙ ap (λ (o : RanOut). o.board) same;
     }
 

@@ -7,40 +7,41 @@ ghost use Rattle.report.specs.Fits.{report_room};
 ghost use Rattle.desk.specs.Printed.{Closing, OfSomeFiles};
 
 use board::Board;
+use ending::Stop;
 use std::io;
 use std::io::Write;
 use std::process::ExitCode;
+use std::rt::Files;
 
 // The report at the front of a buffer that has room for every report, and how many bytes it has: what is printed for some text
 // and some log. Writing it is never refused here.
-fn lay_report(board: Board, text: &mut [u8]) -> usize
-    requires { (Closing board) × (report_room ≤ length text.old) }
+fn lay_report(board: &Board, text: &mut [u8]) -> usize
+    requires { (Closing board.now) × (report_room ≤ length text.old) }
     ensures { (result ≤ length text.new) × (OfSomeFiles (take result text.new)) }
 {
-    report::write(board, text);
+    let _ = report::write(board, text);
     report::text_length(board)
 }
 
-fn print_report<W: Write>(out: &mut W, board: Board) -> io::Result<()>
-    requires { Closing board }
+fn print_report<W: Write>(out: &mut W, board: &Board) -> io::Result<()>
+    requires { Closing board.now }
 {
     let mut text = [0u8; 8192];
     let n = lay_report(board, &mut text);
     out.write_all(&text[..n])
 }
 
-fn main(rt: HostRuntime) -> ExitCode {
-    let mut text = files::open(&rt, "board.set");
+fn run<R: Files + Print>(rt: &R) -> Result<(), Stop> {
+    let mut text = files::open(rt, "board.set");
     let opened = shell::open_board(&mut text);
-    let made = opened.made;
-    if ending::is_over(&rt, b"board.set", opened.failed, made.answer) {
-        return ExitCode::FAILURE;
-    }
-    let mut log = files::open(&rt, "run.rec");
-    let last = shell::replay_log(&mut log, made.board);
-    let ran = last.ran;
-    if ending::is_over(&rt, b"run.rec", last.got.failed, ran.answer) {
-        return ExitCode::FAILURE;
-    }
-    ending::finish(&rt, print_report(&mut io::writer(&rt), ran.board))
+    ending::accepted("board.set", opened.failed, opened.made.answer)?;
+    let mut board = opened.made.board;
+    let mut log = files::open(rt, "run.rec");
+    let last = shell::replay_log(&mut log, &mut board);
+    ending::accepted("run.rec", last.got.failed, last.answer)?;
+    print_report(&mut io::writer(rt), &board).map_err(|error| Stop::At("standard output", error))
+}
+
+fn main(rt: HostRuntime) -> ExitCode {
+    ending::end(&rt, run(&rt))
 }

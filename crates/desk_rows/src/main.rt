@@ -2,7 +2,7 @@
 // log, or the number of the first refusal and no row. So the log goes through twice: once to see that it is accepted.
 #![tactic(auto)]
 
-ghost use Rattle.std.specs.Prelude.{◌≡◌, ◌+◌, ◌<◌, ◌≤◌, length};
+ghost use Rattle.std.specs.Prelude.{◌≡◌};
 ghost use Rattle.shell.specs.Logs.{AnswerToSomeLog};
 
 use answer::Answer;
@@ -22,73 +22,46 @@ struct Pass {
     sum: u64,
 }
 
-fn wide(byte: u8) -> u64
-    ensures { result < 256 }
-{
-    byte as u64
-}
-
-fn digit(rows: &[u8], at: usize) -> u64
-    requires { at + 4 ≤ length rows.now }
-    ensures { result < 4294967296 }
-{
-    wide(rows[at])
-        + 256 * wide(rows[at + 1])
-        + 65536 * wide(rows[at + 2])
-        + 16777216 * wide(rows[at + 3])
-}
-
 // The rows' bytes, four at a time, as digits of a number to the base 16,777,213, of which 40 bits are kept. It goes by four since
 // by single bytes it would cost a good part of what running a record does.
 fn summed(before: u64, rows: &[u8]) -> u64 {
     let mut sum = before % 1099511627776;
-    let mut at: usize = 0;
-    while at + 4 <= rows.len() {
-        sum = (sum * 16777213 + digit(rows, at)) % 1099511627776;
-        at += 4;
+    let (digits, _) = rows.as_chunks::<4>();
+    for digit in digits {
+        sum = (sum * 16777213 + u64::from(u32::from_le_bytes(*digit))) % 1099511627776;
     }
     sum
 }
 
-fn write_if<W: Write>(out: &mut W, wanted: bool, rows: &[u8]) -> io::Result<()> {
-    if wanted {
-        return out.write_all(rows);
-    }
-    Ok(())
-}
-
 impl Pass {
     // What a piece adds, its rows written where they are wanted. One that was not read, or is refused, adds nothing.
-    fn after<W: Write>(self, step: Step, rows: &[u8], writes: bool, out: &mut W) -> Pass
-        ensures { result.answer ≡ step.ran.answer }
+    fn after<W: Write>(self, step: &Step, rows: &[u8], writes: bool, out: &mut W) -> Pass
+        ensures { result.answer ≡ step.now.answer }
     {
         let got = step.got;
-        let a = step.ran.answer;
-        if got.failed.is_some() || !a.is_done() {
+        let answer = step.answer;
+        if got.failed.is_some() || answer.is_err() {
             return Pass {
                 failed: got.failed,
                 written: Ok(()),
-                answer: a,
-                bytes: self.bytes,
-                sum: self.sum,
+                answer,
+                ..self
             };
         }
-        let bytes = self.bytes.wrapping_add(got.count as u64);
-        let sum = summed(self.sum, rows);
-        let written = write_if(out, writes, rows);
+        let written = if writes { out.write_all(rows) } else { Ok(()) };
         Pass {
             failed: None,
             written,
-            answer: a,
-            bytes,
-            sum,
+            answer,
+            bytes: self.bytes.wrapping_add(got.count as u64),
+            sum: summed(self.sum, rows),
         }
     }
 
-    fn is_same(self, other: Pass) -> bool {
-        let a = self.answer;
-        let b = other.answer;
-        a.is_done() && b.is_done() && self.bytes == other.bytes && self.sum == other.sum
+    fn is_same(&self, other: &Pass) -> bool {
+        self.answer.is_ok()
+            && other.answer.is_ok()
+            && (self.bytes, self.sum) == (other.bytes, other.sum)
     }
 }
 
@@ -107,19 +80,18 @@ fn go_through<R: Read, W: Write>(
     let unread = Pass {
         failed: Some(Error::from(ErrorKind::FileTooLarge)),
         written: Ok(()),
-        answer: Answer::Done,
+        answer: Ok(()),
         bytes: 0,
         sum: 0,
     };
     let mut pass = unread;
     for _ in 0..u64::MAX {
-        let step = shell::run_piece(board, log, &mut piece, &mut rows);
+        let step = shell::run_piece(&mut board, log, &mut piece, &mut rows);
         let n = step.got.count;
-        pass = pass.after(step, &rows[..n / 2], writes, out);
+        pass = pass.after(&step, &rows[..n / 2], writes, out);
         if pass.written.is_err() || !step.is_full() {
             return pass;
         }
-        board = step.ran.board;
     }
     unread
 }
@@ -143,7 +115,7 @@ fn main(rt: HostRuntime) -> ExitCode {
     if let Some(error) = second.failed {
         return ending::stop(&rt, b"run.rec", error);
     }
-    if second.written.is_err() || first.is_same(second) {
+    if second.written.is_err() || first.is_same(&second) {
         return ending::finish(&rt, second.written);
     }
     ending::complain(

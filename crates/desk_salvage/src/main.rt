@@ -5,8 +5,9 @@
 ghost use Rattle.std.specs.Prelude.{◌≤◌, length};
 ghost use Rattle.desk_salvage.specs.Piece.{PieceDone};
 
+use answer::Refusal;
 use files::read_piece;
-use salvage::{Salvaged, salvage};
+use salvage::{Lengths, salvage};
 use std::fs::{OpenFile, OpenOptions};
 use std::io::{Error, ErrorKind, Read, Write};
 use std::process::ExitCode;
@@ -69,7 +70,12 @@ fn close_part<F: OpenFile + Drop>(file: F, name: &'static str) -> Result<(), Sto
 }
 
 // A piece salvaged at the front of buffers that have room for every piece.
-fn salvage_piece(first: u64, piece: &[u8], salvaged: &mut [u8], changes: &mut [u8]) -> Salvaged
+fn salvage_piece(
+    first: u64,
+    piece: &[u8],
+    salvaged: &mut [u8],
+    changes: &mut [u8],
+) -> Result<Lengths, Refusal>
     requires { (length piece.now ≤ 6144) × (6144 ≤ length salvaged.old) × (319488 ≤ length changes.old) }
     ensures { PieceDone first piece.now result salvaged.new changes.new }
 {
@@ -88,12 +94,11 @@ fn go_through<R: Read, F: Write>(log: &mut Option<R>, parts: &mut Parts<F>) -> R
         if let Some(error) = got.failed {
             return Err(Stop::At("run.rec", error));
         }
-        let done = salvage_piece(first, &piece[..n], &mut salvaged, &mut changes);
-        if !done.answer.is_done() {
+        let Ok(written) = salvage_piece(first, &piece[..n], &mut salvaged, &mut changes) else {
             return Err(Stop::Numbers);
-        }
-        write_part(&mut parts.log, &salvaged[..done.log], LOG_PART)?;
-        write_part(&mut parts.list, &changes[..done.list], LIST_PART)?;
+        };
+        write_part(&mut parts.log, &salvaged[..written.log], LOG_PART)?;
+        write_part(&mut parts.list, &changes[..written.list], LIST_PART)?;
         if n < PIECE {
             return Ok(());
         }

@@ -13,8 +13,7 @@ use lib.ListN.{length, take, drop, replicate, length-append, length-take, length
 use Rattle.laws.specs.Base.{if}
 use Rattle.laws.proofs.Bools.{if_no}
 use Rattle.laws.proofs.Tests.{either, lt_or_ge}
-use Rattle.answer.specs.declared.Answer.{Answer}
-use Rattle.answer.specs.Told.{Told, told, succeeded, DONE}
+use Rattle.answer.specs.Told.{Told, Answer, told, succeeded, DONE}
 use Rattle.answer.proofs.Told.{told_done}
 use Rattle.text.specs.Bytes.{put}
 use Rattle.text.proofs.Bytes.{put_append}
@@ -22,7 +21,6 @@ use Rattle.reason.specs.Reason.{answer_text, block_text}
 use Rattle.records.specs.Refusal.{records_in}
 use Rattle.board.specs.declared.Board.{Board}
 use Rattle.board.specs.declared.Made.{Made}
-use Rattle.board.specs.declared.Ran.{Ran}
 use Rattle.board.specs.Fresh.{MadeOut}
 use Rattle.board.specs.Block.{RanOut, ran_out, block_of}
 use Rattle.replay.specs.Replay.{opened_of, blocks_in, laid_on, in_blocks}
@@ -114,23 +112,23 @@ module _ (fresh b : Board) (n : ℕ) (g : Counted fresh b n) where
         rw is (sym before))
         (lt_or_ge 0 (length piece))
 
-    pub last_found : (failed : Bool) (r : Ran) (after : List ℕ) → ran_out r after ≡ piece_run failed b piece rows → FoundInSomeLog fresh r.answer n
-    last_found true r after ran = nothing_found r.answer (ap (λ (o : RanOut). o.answer) ran)
-    last_found false r after ran =
+    pub last_found : (failed : Bool) (a : Answer) (at : Board) (after : List ℕ) → ran_out a at after ≡ piece_run failed b piece rows → FoundInSomeLog fresh a n
+    last_found true a at after ran = nothing_found a (ap (λ (o : RanOut). o.answer) ran)
+    last_found false a at after ran =
         let same = ap (λ (o : RanOut). o.answer) ran ∙ more.answer in
         record { log = all; answer = same; run = λ e. run_is (sym (ap succeeded same) ∙ e) }
 
-    pub one_counted : (failed : Bool) (r : Ran) (after : List ℕ) → ran_out r after ≡ piece_run failed b piece rows
-        → goes_on failed k (told r.answer) ≡ true → Counted fresh r.board (n + 1)
-    one_counted true r after ran full = absurd (false≢true full)
-    one_counted false r after ran full =
-        let is = full_block false k (told r.answer) full in
+    pub one_counted : (failed : Bool) (a : Answer) (at : Board) (after : List ℕ) → ran_out a at after ≡ piece_run failed b piece rows
+        → goes_on failed k (told a) ≡ true → Counted fresh at (n + 1)
+    one_counted true a at after ran full = absurd (false≢true full)
+    one_counted false a at after ran full =
+        let is = full_block false k (told a) full in
         let long : length all ≡ 1536 * (n + 1) = rw (length-append, length-take) (omega (arith, g.long)) in
         record {
           so = record {
             log = all;
             whole = omega (arith, long);
-            done = sym (ap (λ (o : RanOut). o.answer) ran ∙ more.answer) ∙ told_done r.answer is.2;
+            done = sym (ap (λ (o : RanOut). o.answer) ran ∙ more.answer) ∙ told_done a is.2;
             board = sym (ap (λ (o : RanOut). o.board) ran ∙ more.board);
           };
           long = long;

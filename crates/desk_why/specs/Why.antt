@@ -2,8 +2,7 @@
 -- No contract can say which bytes a file holds, but they decide what is printed.
 use Rattle.std.specs.Prelude.{ℕ, zero, suc, ◌*◌, ◌≡◌, Bool, false, not, List, [], ◌++◌, ltb, replicate}
 use Rattle.laws.specs.Base.{if}
-use Rattle.answer.specs.declared.Answer.{Answer}
-use Rattle.answer.specs.Told.{Told, told, succeeded, DONE}
+use Rattle.answer.specs.Told.{Told, Answer, told, succeeded, DONE}
 use Rattle.reason.specs.Reason.{answer_text, block_text}
 use Rattle.records.specs.Refusal.{records_in}
 use Rattle.board.specs.declared.Board.{Board}

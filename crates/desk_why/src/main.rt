@@ -27,17 +27,16 @@ struct Found {
 }
 
 // Whether more of the log may follow: the block was read, is full and was accepted.
-fn goes_on(step: Step) -> bool
-    ensures { result ≡ goes_on (is_some step.got.failed) step.got.«count» (told step.ran.answer) }
+fn goes_on(step: &Step) -> bool
+    ensures { result ≡ goes_on (is_some step.now.got.failed) step.now.got.«count» (told step.now.answer) }
 {
-    let got = step.got;
-    if got.failed.is_some() {
+    if step.got.failed.is_some() {
         return false;
     }
-    if got.count < BLOCK {
+    if step.got.count < BLOCK {
         return false;
     }
-    step.ran.answer.is_done()
+    step.answer.is_ok()
 }
 
 // Runs the log one block at a time, so that the blocks before a refusal are counted. No file has as many blocks as the loop has turns.
@@ -48,20 +47,18 @@ fn find<R: Read>(log: &mut Option<R>, fresh: Board) -> Found
     let mut rows = [0u8; BLOCK / 2];
     let mut board = fresh;
     for block in 0..u64::MAX {
-        let step = shell::run_piece(board, log, &mut piece, &mut rows);
-        let ran = step.ran;
-        if !goes_on(step) {
+        let step = shell::run_piece(&mut board, log, &mut piece, &mut rows);
+        if !goes_on(&step) {
             return Found {
                 failed: step.got.failed,
-                answer: ran.answer,
+                answer: step.answer,
                 block,
             };
         }
-        board = ran.board;
     }
     Found {
         failed: Some(Error::from(ErrorKind::FileTooLarge)),
-        answer: Answer::Done,
+        answer: Ok(()),
         block: u64::MAX,
     }
 }
@@ -98,7 +95,7 @@ fn tell_log<F: Read, R: Print + Eprint>(rt: &R, log: &mut Option<F>, fresh: Boar
     let a = found.answer;
     ending::finish(
         rt,
-        print_why(&mut io::writer(rt), a, !a.is_done(), found.block),
+        print_why(&mut io::writer(rt), a, a.is_err(), found.block),
     )
 }
 
@@ -110,7 +107,7 @@ fn main(rt: HostRuntime) -> ExitCode {
     }
     let made = opened.made;
     let read = made.answer;
-    if !read.is_done() {
+    if read.is_err() {
         return ending::finish(&rt, print_why(&mut io::writer(&rt), read, false, 0));
     }
     let mut log = files::open(&rt, "run.rec");

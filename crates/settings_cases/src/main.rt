@@ -86,8 +86,8 @@ fn say_low_limits<W: Write>(to: &mut W, s: Settings) -> io::Result<()> {
 }
 
 // What the settings write, read back.
-fn say_back<W: Write>(to: &mut W, s: Settings, out: &mut [u8]) -> io::Result<()> {
-    editions::write_text(s, out);
+fn say_back<W: Write>(to: &mut W, s: &Settings, out: &mut [u8]) -> io::Result<()> {
+    let _ = editions::write_text(s, out);
     let n = editions::text_length(s);
     if out.len() < n {
         return Ok(());
@@ -111,8 +111,8 @@ fn read_edited<W: Write>(
     let r = editions::read_text(&text[..m]);
     let a = r.answer;
     say_case(to, name, a)?;
-    if a.is_done() {
-        say_back(to, r.settings, text)?;
+    if a.is_ok() {
+        say_back(to, &r.settings, text)?;
     }
     Ok(())
 }
@@ -173,7 +173,7 @@ fn with(line: usize, value: u32) -> Settings {
 fn write_part<W: Write>(
     to: &mut W,
     name: &[u8],
-    s: Settings,
+    s: &Settings,
     out: &mut [u8],
     room: usize,
 ) -> io::Result<()> {
@@ -196,7 +196,7 @@ fn write_case<W: Write>(
 ) -> io::Result<()> {
     let mut out = [7u8; 4096];
     let s = with(line, value);
-    write_part(to, name, s, &mut out, room)
+    write_part(to, name, &s, &mut out, room)
 }
 
 // Checks the standard settings with another value on a line.
@@ -248,8 +248,8 @@ fn reads<W: Write>(to: &mut W, input: &[u8]) -> io::Result<()> {
     let c = line_end(input, b);
     let k = decoded(&input[b..c], &mut second);
     let s = Settings::standard();
-    editions::write_text(s, &mut newest);
-    let n = editions::text_length(s);
+    let _ = editions::write_text(&s, &mut newest);
+    let n = editions::text_length(&s);
     if 4096 < n {
         return Ok(());
     }

@@ -6,6 +6,6 @@ pub returns : goal.returns
 returns c =
     let w = c.write in
     let n = c.text_length in (
-      laid_long c.args.board c.requires.0 c.args.text.now _ c.requires.1 w.result w.ensures n.result n.ensures,
-      laid_are c.args.board c.requires.0 c.args.text.now _ c.requires.1 w.result w.ensures n.result n.ensures,
+      laid_long c.args.board.now c.requires.0 c.args.text.now _ c.requires.1 w.result w.ensures n.result n.ensures,
+      laid_are c.args.board.now c.requires.0 c.args.text.now _ c.requires.1 w.result w.ensures n.result n.ensures,
     )

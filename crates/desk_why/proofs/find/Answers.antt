@@ -12,7 +12,7 @@ returns-then-not-goes_on g c =
     let l = c.loop-block in
     let r = c.run_piece-step in
     let long : length c.args.fresh.ptcs ≡ 8 = search (rules, mapped_long) in
-    last_found _ l.board _ l.invariant.2 long r.result.got.«count» r.new.piece l.rows (search rules) l.invariant.1 (is_some r.result.got.failed) r.result.ran _ r.ensures.1
+    last_found _ l.board _ l.invariant.2 long r.result.got.«count» r.new.piece l.rows (search rules) l.invariant.1 (is_some r.result.got.failed) r.result.answer _ _ r.ensures.1
 
 pub loop-block-preserved : goal.loop-block-preserved
 loop-block-preserved g c =
@@ -22,6 +22,6 @@ loop-block-preserved g c =
     let piece : length r.new.piece ≡ 1536 = search rules in (
       piece,
       search rules,
-      one_counted _ l.board _ l.invariant.2 long r.result.got.«count» r.new.piece l.rows piece l.invariant.1 (is_some r.result.got.failed) r.result.ran _ r.ensures.1
+      one_counted _ l.board _ l.invariant.2 long r.result.got.«count» r.new.piece l.rows piece l.invariant.1 (is_some r.result.got.failed) r.result.answer _ _ r.ensures.1
           (sym c.goes_on.ensures ∙ c.if-not-goes_on.false),
     )
