@@ -122,18 +122,3 @@ pub fn accepted(file: &'static str, failed: Option<Error>, a: Answer) -> Result<
     a?;
     Ok(())
 }
-
-// Whether a program is over after reading a file, of which it has then said why.
-pub fn is_over(rt: &(impl Print + Eprint), file: &[u8], failed: Option<Error>, a: Answer) -> bool
-    ensures { result ≡ over (is_some failed) (told a) }
-{
-    if let Some(error) = failed {
-        stop(rt, file, error);
-        return true;
-    }
-    if a.is_ok() {
-        return false;
-    }
-    refuse(rt, a);
-    true
-}
