@@ -35,7 +35,7 @@ fn times_of(s: Settings) -> [u32; 88]
     times
 }
 
-// 1 at each number at which some controller sends code 1 or 11. Not a part of the kit: two parts of one value are not lent at once.
+// 1 at each number at which some controller sends code 1 or 11. Beside the kit, which is handed over by value.
 #[tactic(auto, unfolding(crate::specs::Support::Laid::busy_for))]
 pub fn busy_of(s: Settings) -> [u8; 4096]
     ensures { result ≡ busy_of s }
