@@ -8,7 +8,7 @@
 ghost use Rattle.std.specs.Prelude.{◌≤◌, length};
 
 use answer::Answer;
-use cases::{after, end_line, line_end, read_input, say, say_answer, say_number};
+use cases::{end_line, read_input, say, say_answer, say_number};
 use settings::Settings;
 use std::io;
 use std::io::Write;
@@ -204,33 +204,15 @@ fn check_case<W: Write>(to: &mut W, name: &[u8], line: usize, value: u32) -> io:
     say_case(to, name, a)
 }
 
-fn read_cases<W: Write>(to: &mut W, input: &[u8], from: usize, bases: Bases) -> io::Result<()>
-    requires { from ≤ length input.now }
-{
-    let mut at = from;
-    while at < input.len() {
-        let a = line_end(input, at);
-        let old = after(input, a);
-        let b = line_end(input, old);
-        let new = after(input, b);
-        let c = line_end(input, new);
-        let name = &input[at..a];
-        read_case(to, name, bases.of(name), &input[old..b], &input[new..c])?;
-        at = after(input, c);
-    }
-    Ok(())
-}
-
 // The first two lines are texts of the first and the second edition; that of the newest is the standard one.
 fn reads<W: Write>(to: &mut W, input: &[u8]) -> io::Result<()> {
+    let input = input.strip_suffix(b"\n").unwrap_or(input);
+    let mut lines = input.split(|b| *b == b'\n');
     let mut first = [0u8; 1024];
     let mut second = [0u8; 4096];
     let mut newest = [0u8; 4096];
-    let a = line_end(input, 0);
-    let m = decoded(&input[..a], &mut first);
-    let b = after(input, a);
-    let c = line_end(input, b);
-    let k = decoded(&input[b..c], &mut second);
+    let m = decoded(lines.next().unwrap_or(b""), &mut first);
+    let k = decoded(lines.next().unwrap_or(b""), &mut second);
     let s = Settings::standard();
     let _ = editions::write_text(&s, &mut newest);
     let n = editions::text_length(&s);
@@ -242,7 +224,12 @@ fn reads<W: Write>(to: &mut W, input: &[u8]) -> io::Result<()> {
         second: &second[..k],
         newest: &newest[..n],
     };
-    read_cases(to, input, after(input, c), bases)
+    while let Some(name) = lines.next() {
+        let old = lines.next().unwrap_or(b"");
+        let new = lines.next().unwrap_or(b"");
+        read_case(to, name, bases.of(name), old, new)?;
+    }
+    Ok(())
 }
 
 fn writes<W: Write>(to: &mut W) -> io::Result<()> {
