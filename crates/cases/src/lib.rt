@@ -7,7 +7,6 @@ mod log;
 mod record;
 
 ghost use Rattle.std.specs.Prelude.{◌≡◌, ◌+◌, ◌≤◌, min, length, IfOk};
-ghost use Rattle.cases.specs.Lines.{EndsLine};
 
 use answer::{Answer, Refusal};
 pub use bytes::{say_left, say_untouched, say_written};
@@ -69,25 +68,4 @@ pub fn say_answer<W: Write>(out: &mut W, before: &[u8], answer: Answer) -> io::R
         }
         Ok(()) | Err(Refusal::Board | Refusal::Length | Refusal::Life | Refusal::Store) => Ok(()),
     }
-}
-
-// Where the line that begins at a place ends, before its newline.
-pub fn line_end(text: &[u8], at: usize) -> usize
-    requires { at ≤ length text.now }
-    ensures { EndsLine text.now at result }
-{
-    for end in at..text.len() {
-        if text[end] == b'\n' {
-            return end;
-        }
-    }
-    text.len()
-}
-
-// The place after a newline, or the text's end.
-pub fn after(text: &[u8], end: usize) -> usize
-    requires { end ≤ length text.now }
-    ensures { result ≡ min (end + 1) (length text.now) }
-{
-    (end + 1).min(text.len())
 }
