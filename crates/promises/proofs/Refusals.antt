@@ -9,9 +9,10 @@ use native.Mathlib.Omega.{arith}
 use lib.Dec.{leb, eqb}
 use lib.ListN.{length}
 use Rattle.laws.proofs.Tests.{either}
-use Rattle.answer.specs.declared.Answer.{Answer}
-use Rattle.answer.specs.declared.Answer.TheVariants.{Done, Text, Range, Relation, Board, Length, Room, Record, Life, Store as StoreRefused}
-use Rattle.answer.specs.Told.{Told, told, succeeded}
+use Rattle.std.specs.Prelude.{Ok, Err}
+use Rattle.answer.specs.declared.Refusal.{Refusal}
+use Rattle.answer.specs.declared.Refusal.TheVariants.{Text, Range, Relation, Board, Length, Room, Record, Life, Store as StoreRefused}
+use Rattle.answer.specs.Told.{Told, Answer, told, told_refusal, succeeded}
 use Rattle.text.specs.Lines.{Lines, all, text_at, range_at, read_lines}
 use Rattle.keys.specs.Settings.{table_of}
 use Rattle.settings.specs.declared.Settings.{Settings}
@@ -32,17 +33,20 @@ use Rattle.report.specs.Report.{reported}
 use Rattle.beside.specs.Beside.{beside_answer, beside_of}
 use Rattle.promises.specs.Refusals.{Refusals}
 
+refusal_numbered : (r : Refusal) → (told_refusal r).number ≤ 9
+refusal_numbered (Text line) = omega arith
+refusal_numbered (Range line) = omega arith
+refusal_numbered (Relation which controller) = omega arith
+refusal_numbered Board = omega arith
+refusal_numbered Length = omega arith
+refusal_numbered (Room needed) = omega arith
+refusal_numbered (Record index) = omega arith
+refusal_numbered Life = omega arith
+refusal_numbered StoreRefused = omega arith
+
 numbered : (a : Answer) → (told a).number ≤ 9
-numbered Done = omega arith
-numbered (Text line) = omega arith
-numbered (Range line) = omega arith
-numbered (Relation which controller) = omega arith
-numbered Board = omega arith
-numbered Length = omega arith
-numbered (Room needed) = omega arith
-numbered (Record index) = omega arith
-numbered Life = omega arith
-numbered StoreRefused = omega arith
+numbered (Ok done) = omega arith
+numbered (Err r) = refusal_numbered r
 
 -- a block's answer is the same on both ways, so it says which was taken
 module _ (b : BoardValue) (log rows : List ℕ) (e : succeeded (block_of b log rows).answer ≡ false) where

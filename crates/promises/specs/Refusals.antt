@@ -1,8 +1,7 @@
 -- Demand 1, second sentence: bad input gets one of the numbered refusals; the board comes back as handed in, and no lent byte is touched.
 -- That every call meets any input without a fault, and ends, is what the checker proves of each function by itself.
 use Rattle.std.specs.Prelude.{ℕ, ◌≤◌, ◌≡◌, false, List}
-use Rattle.answer.specs.declared.Answer.{Answer}
-use Rattle.answer.specs.Told.{told, succeeded}
+use Rattle.answer.specs.Told.{Answer, told, succeeded}
 use Rattle.settings.specs.declared.Settings.{Settings}
 use Rattle.settings.specs.Standard.{standard}
 use Rattle.editions.specs.Read.{read_text}
