@@ -141,9 +141,8 @@ impl Counts {
         requires { CountsRoom self }
         ensures { result ≡ counted_of asked fate asks free self }
     {
-        Counts {
-            cal: self.cal.with(asks, free),
-            ..self.with_request(asked, fate)
-        }
+        let mut counts = self.with_request(asked, fate);
+        counts.cal = self.cal.with(asks, free);
+        counts
     }
 }

@@ -59,14 +59,16 @@ fn while_disconnected(class: u8) -> u8
     if RANK_BAD <= class { 9 } else { 6 }
 }
 
-// Whether a state stays as it is, whatever the number, while the class is the same.
+// Whether a state stays as it is, whatever the number, while the class is the same. An arm for each of 6, 7 and 8: each is one test of the class.
 #[tactic(auto, unfolding(crate::specs::Support::Rest::resting))]
 pub fn rests(class: u8, state: u8) -> bool
     ensures { result ≡ resting class state }
 {
     match state {
         0 | 10 | 11 | 18 => true,
-        6..=8 => while_running(class) == state,
+        6 => while_running(class) == 6,
+        7 => while_running(class) == 7,
+        8 => while_running(class) == 8,
         9 => RANK_BAD <= class,
         _ => false,
     }
