@@ -10,10 +10,15 @@ use Rattle.laws.proofs.Bools.{if_has}
 use Rattle.settings.specs.declared.names.Schedule.{Schedule}
 use Rattle.settings.specs.declared.names.Waits.{Waits}
 use Rattle.states.specs.declared.Moved.{Moved}
-use Rattle.states.specs.Names.{WARN, running, status_of}
+use Rattle.states.specs.Names.{READY, WARN, running, status_of}
 use Rattle.states.specs.Moves.{move_of, entry_wait, moved_of}
 use Rattle.states.specs.Commands.{state_after}
-use Rattle.states.specs.Sound.{sound_state, sound_waits}
+use Rattle.states.specs.Sound.{waiting, sound_state, sound_waits}
+
+-- a state that does not wait is entered with wait 0
+pub entry_waiting : (w : Waits) (s : ℕ) → waiting s ≡ false → entry_wait w s ≡ 0
+unfolding entry_wait
+entry_waiting w s n = grind arith
 
 pub entry_most : (w : Waits) → sound_waits w ≡ true → (s : ℕ) → entry_wait w s ≤ 255
 unfolding entry_wait
@@ -76,6 +81,10 @@ unfolding status_of
 shows_running s = (grind arith, grind arith)
 
 -- the status as a test of the state
+pub shows_ready : (s : ℕ) → eqb (status_of s) 8 ≡ eqb s READY
+unfolding status_of
+shows_ready s = grind arith
+
 pub shows_warn : (s : ℕ) → eqb (status_of s) 1 ≡ eqb s WARN
 unfolding status_of
 shows_warn s = grind arith
