@@ -46,10 +46,16 @@ events_most : (step events m : ℕ) (sent cal : Bool) → events ≤ m → event
 events_most step events m sent cal h = grind arith
 
 -- whoever held the slot before
-cycle_sound : (at : Schedule) (number : ℕ) (before own : Bool) (old s c : ℕ) (asks : Bool) → sound_cycle before old c ≡ true
+pub cycle_sound : (at : Schedule) (number : ℕ) (before own : Bool) (old s c : ℕ) (asks : Bool) → sound_cycle before old c ≡ true
     → sound_cycle own s (if asks 0 (opened_of at number own (kept_of s own c))) ≡ true
 unfolding kept_of opened_of
 cycle_sound at number before own old s c asks e = grind arith
+
+-- an open cycle is the holder's and runs, sound or not before
+pub open_is_held : (at : Schedule) (number : ℕ) (own : Bool) (s c : ℕ) → eqb (opened_of at number own (kept_of s own c)) 2 ≡ true
+    → (own ≡ true) × (running s ≡ true)
+unfolding kept_of opened_of
+open_is_held at number own s c e = (grind arith, grind arith)
 
 -- the holder may be another one than before
 pub crossed_sound : (plan : Plan) (scene : Scene) (k class : ℕ) (asked own : Bool) (m : ℕ) (p : Ptc) → sound_waits plan.waits ≡ true
