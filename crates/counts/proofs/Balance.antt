@@ -2,7 +2,7 @@
 -- The conjunction is read as a record of facts, each step is arithmetic over it, and the record makes the conjunction again.
 use mathlib.Core.Path.{◌≡◌}
 use mathlib.Core.Bool.{Bool, true, false}
-use Prim.Native.Nat.{ℕ, ◌+◌, ◌≤◌}
+use Prim.Native.Nat.{ℕ, ◌+◌, ◌*◌, ◌≤◌}
 use native.Mathlib.Omega.{arith}
 use borrow.Author.Rules.{rules}
 use lib.Dec.{eqb, ltb}
@@ -34,6 +34,38 @@ pub record CalWithin (m : ℕ) (c : Calibrations) : Type 0 where
   pub requested : c.requested ≤ m
   pub accepted : c.accepted ≤ m
   pub lost : c.lost ≤ m
+
+pub record CountsWithin (m : ℕ) (c : Counts) : Type 0 where
+  pub requested : c.requested ≤ m
+  pub accepted : c.accepted ≤ m
+  pub losses : LostWithin m c.lost
+  pub calibrations : CalWithin m c.cal
+
+pub within_read : (m : ℕ) (c : Counts) → within_counts m c ≡ true → CountsWithin m c
+unfolding within_counts
+within_read m c e = record {
+  requested = grind arith;
+  accepted = grind arith;
+  losses = record {
+    state = grind arith;
+    slot = grind arith;
+    gap = grind arith;
+    cal = grind arith;
+    throttle = grind arith;
+    ruled = grind arith;
+  };
+  calibrations = grind arith;
+}
+
+-- sent and five losses sum up to at most six times m, the four rules to four times
+pub lost_most : (m : ℕ) (c : Counts) → within_counts m c ≡ true → c.accepted + lost_sum c.lost ≤ 6 * m
+lost_most m c e = omega (arith, within_read m c e)
+
+pub rules_most : (m : ℕ) (c : Counts) → within_counts m c ≡ true → rules_sum c.lost.rules ≤ 4 * m
+rules_most m c e = omega (arith, within_read m c e)
+
+pub cal_most : (m : ℕ) (c : Counts) → within_counts m c ≡ true → c.cal.accepted + c.cal.lost ≤ 2 * m
+cal_most m c e = omega (arith, within_read m c e)
 
 -- r requests, of which s were sent
 pub record Requests (m r s : ℕ) (l : Lost) : Type 0 where
