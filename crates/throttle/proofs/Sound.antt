@@ -1,16 +1,17 @@
 -- Laws of clear places: a loop that stops at the first mark decides them, and each is told by its distance from the first.
 -- The ring starts sound, by computation; a crossing keeps it so: it clears the next place, and the places further on are not its own.
 use mathlib.Core.Path.{◌≡◌, refl, ◌∙◌}
-use mathlib.Core.Bool.{true}
+use mathlib.Core.Logic.{◌≢◌}
+use mathlib.Core.Bool.{true, false}
 use mathlib.Core.List.{List}
-use Prim.Native.Nat.{ℕ, zero, suc, ◌+◌, ◌-◌, ◌<◌, min}
+use Prim.Native.Nat.{ℕ, zero, suc, ◌+◌, ◌-◌, ◌≤◌, ◌<◌, min}
 use native.Mathlib.Nat.{add-zero, add-suc, suc-add, le_of_suc-le-suc, not-suc-le-zero}
 use native.Mathlib.Numerals.{add-one}
 use native.Mathlib.Omega.{arith}
 use lib.Dec.{eqb}
 use Rattle.std.specs.List.{list_all, range_with_len}
 use lib.ListN.{length, replicate}
-use borrow.Author.Tests.{eq-eqb, eqb-true}
+use borrow.Author.Tests.{eq-eqb, ne_eqb, eqb-true}
 use Rattle.laws.proofs.Bools.{both, and_yes}
 use Rattle.throttle.specs.Marks.{bit_at, mark_at, marked, passed}
 use Rattle.throttle.specs.Sound.{clear_from, sound_marks}
@@ -25,6 +26,23 @@ clear_all ws c a (suc m) = rw (clear_all ws c (a + 1) m, add-one, add-suc)
 pub sound_all : (ws : List ℕ) (n m : ℕ) → m ≡ min n 2047 → list_all (λ d. eqb (mark_at ws (n + d)) 0) (range_with_len 0 (2048 - m)) ≡ sound_marks n ws
 unfolding sound_marks
 sound_all ws n m e = rw e (rw add-zero at (clear_all ws n 0 (2048 - min n 2047)))
+
+-- a place more, and the two ends
+module _ (ws : List ℕ) (c : ℕ) where
+  pub clear_next : (m : ℕ) → 0 < m → mark_at ws c ≡ 0 → clear_from ws c m ≡ clear_from ws (c + 1) (m - 1)
+  unfolding clear_from
+  clear_next zero h e = absurd (not-suc-le-zero h)
+  clear_next (suc m) h e = let less : suc m - 1 ≡ m = omega arith in rw (eq-eqb (mark_at ws c) 0 e, add-one, less)
+
+  pub clear_stop : (m : ℕ) → 0 < m → mark_at ws c ≢ 0 → clear_from ws c m ≡ false
+  unfolding clear_from
+  clear_stop zero h e = absurd (not-suc-le-zero h)
+  clear_stop (suc m) h e = rw (ne_eqb (mark_at ws c) 0 e)
+
+  pub clear_end : (m : ℕ) → m ≤ 0 → clear_from ws c m ≡ true
+  unfolding clear_from
+  clear_end zero h = refl
+  clear_end (suc m) h = absurd (not-suc-le-zero h)
 
 -- the places by their distance from the first
 pub clear_at : (ws : List ℕ) (c m d : ℕ) → clear_from ws c m ≡ true → d < m → mark_at ws (c + d) ≡ 0
