@@ -14,7 +14,7 @@ pub key_count_lem : length keys ≡ key_count
 unfolding keys
 key_count_lem = refl
 
-key_bytes_lem : length (line_heads keys) ≡ key_bytes
+pub key_bytes_lem : length (line_heads keys) ≡ key_bytes
 unfolding keys line_head
 key_bytes_lem = refl
 

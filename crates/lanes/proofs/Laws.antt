@@ -7,7 +7,7 @@ use native.Mathlib.Nat.{zero-add, max_comm}
 use native.Mathlib.Numerals.{add-one}
 use native.Mathlib.Omega.{arith}
 use borrow.Author.Tests.{lt-ltb, le-ltb}
-use lib.ListN.{get_or}
+use lib.ListN.{length, get_or}
 use lib.Seq.{ext_get_or}
 use Rattle.laws.specs.Base.{highest, tabulate}
 use Rattle.laws.proofs.Over.{length_tabulate, get_d_tabulate}
@@ -22,6 +22,10 @@ use Rattle.status.proofs.Laws.{ranked, owned, counted_low}
 use Rattle.lanes.specs.OnePass.{OnePass}
 use Rattle.lanes.specs.Support.Lanes.{rank_of, entry_of, table_of, pair_of, lanes_of, class_in, lane_classes}
 use Rattle.lanes.proofs.Words.{class_or, class_in_lane, class_in_all}
+
+pub lane_classes_long : (t codes : List ℕ) → length (lane_classes t codes) ≡ 8
+unfolding lane_classes
+lane_classes_long t codes = length_tabulate (class_in (lanes_of t codes 20)) 0 8
 
 module _ (s : Settings) where
   entry_at : (n : ℕ) → n < 656 → get_or (table_of (merger_of s)) n 0 ≡ entry_of (merger_of s).owners (merger_of s).ranks n

@@ -90,6 +90,10 @@ pub no_news : (carried believed codes : List ℕ) → carried ≡ codes → beli
 unfolding news_of
 no_news carried believed codes c b = rw (b, c, firm codes, same_self codes 21)
 
+pub held_firm : (h : Held) (codes : List ℕ) → h.carried ≡ codes → h.believed ≡ codes → next_held h codes ≡ h
+unfolding next_held
+held_firm h codes e f = rw (e, f, firm codes)
+
 first_low : (carried believed codes : List ℕ) → get_or carried 0 0 < 16 → get_or believed 0 0 < 16 → get_or codes 0 0 < 16 → get_or (believed_of carried believed codes) 0 0 < 16
 unfolding believed_of map_i
 first_low carried [] codes p q r = omega arith

@@ -27,7 +27,7 @@ unfolding put
 length_put d at s h = simp (length-append, length-drop, length-take) (omega arith)
 
 -- the first byte laid, then the others
-put_cons : (d : List ℕ) (at x : ℕ) (s : List ℕ) → at < length d → put d at (x ∷ s) ≡ put (set d at x) (suc at) s
+pub put_cons : (d : List ℕ) (at x : ℕ) (s : List ℕ) → at < length d → put d at (x ∷ s) ≡ put (set d at x) (suc at) s
 unfolding put
 put_cons d at x s h =
     let past : at < suc (at + length s) = omega arith in

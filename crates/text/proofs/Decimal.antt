@@ -70,8 +70,17 @@ digits_within =
 pub digits_most : (n : ℕ) → n < 2 ^ 64 → length (decimal n) ≤ 20
 digits_most n h = digits_within n 20 (lit< tt) (omega arith)
 
+pub digits_some : (n : ℕ) → 0 < length (decimal n)
+digits_some =
+    decimal_ind (λ n. 0 < length (decimal n))
+    (λ n h. rw (decimal_small n h) (omega arith))
+    (λ n h ih. rw (decimal_large n h, length-append) (omega arith))
+
 pub one_digit : (n : ℕ) → n < 10 → length (decimal n) ≡ 1
 one_digit n h = rw (decimal_small n h)
+
+pub digit_more_lem : (n : ℕ) → 10 ≤ n → length (decimal n) ≡ length (decimal (n / 10)) + 1
+digit_more_lem n h = rw (decimal_large n h, length-append)
 
 one_power : (n k : ℕ) → n / 10 < 10 ^ k → n < 10 ^ (k + 1)
 one_power n k h = rw add-one (omega arith)
