@@ -81,7 +81,7 @@ pub all_formed : (n : ℕ) (log : List ℕ) → ((i : ℕ) → i < n → well (r
 all_formed n log w = first_none (λ i. well (rec_at log i)) n 0 (λ i h. rw zero-add (w i h)) ∙ zero-add n
 
 -- crossings are counted record by record
-crossings_step : (n : ℕ) (log : List ℕ) → crossings_in (n + 1) log ≡ crossings_in n log + one (is_crossing (rec_at log n))
+pub crossings_step : (n : ℕ) (log : List ℕ) → crossings_in (n + 1) log ≡ crossings_in n log + one (is_crossing (rec_at log n))
 unfolding crossings_in
 crossings_step n log = rw add-one
 

@@ -119,19 +119,19 @@ module _ (first : ℕ) (log : List ℕ) (room : ℕ) where
   abbrev pub Through : ℕ → Type 0
   Through n = tested_of n first log room ≡ record { answer = DONE; records = records_in (take (1536 * n) log) }
 
-  none_through : Through 0
+  pub none_through : Through 0
   unfolding tested_of
   none_through = refl
 
   went : (n : ℕ) → Through n → succeeded (tested_of n first log room).answer ≡ true
   went n so = ap (λ (o : TestedOut). succeeded o.answer) so
 
-  through_next : (n : ℕ) → 1536 * n < length log → Through n → answer_at n ≡ DONE → Through (n + 1)
+  pub through_next : (n : ℕ) → 1536 * n < length log → Through n → answer_at n ≡ DONE → Through (n + 1)
   through_next n more so d =
       let sum : 64 * n + records_in (block_in log n) ≡ records_in (take (1536 * suc n) log) = omega (arith, block_long log n, length-take (1536 * suc n) log) in
       rw add-one (tested_next n (went n so) ∙ rw (d, sum))
 
-  refused_here : (n m : ℕ) → n < m → Through n → succeeded (answer_at n) ≡ false → tested_of m first log room ≡ record { answer = answer_at n; records = 64 * n }
+  pub refused_here : (n m : ℕ) → n < m → Through n → succeeded (answer_at n) ≡ false → tested_of m first log room ≡ record { answer = answer_at n; records = 64 * n }
   refused_here n m h so d =
       let here : tested_of (suc n) first log room ≡ record { answer = answer_at n; records = 64 * n } = tested_next n (went n so) ∙ rw (d, add-zero) in
       let e : m - suc n + suc n ≡ m = omega arith in
