@@ -25,9 +25,20 @@ oldest_group ws p a h =
     let f = first (kept (store_at ws p)) (sound_parts_lem _ a.sound).groups (omega (arith, content_long ws p.oldest p.used)) in
     (omega (arith, f.least), omega (arith, f.most))
 
+-- where the scan is after the words of a change
+module _ (p : Pen) (c : Change) where
+  pub scan_under : under p.scan c ≡ true → scanned p.scan (words_for p.scan c) ≡ after p.scan (word_of c)
+  unfolding words_for scanned
+  scan_under u = rw u
+
+  pub scan_own : under p.scan c ≡ false
+      → scanned p.scan (words_for p.scan c) ≡ after (after (after (after p.scan 0) (c.orbit / 65536)) (c.orbit % 65536)) (word_of c)
+  unfolding words_for scanned
+  scan_own u = rw u
+
 module _ (ws : List ℕ) (p : Pen) (c : Change) (a : Aligned ws p) (f : Fits c) (vs : List ℕ) (r : Pen) where
   -- the store with the change, and its pen
-  kept_here : store_at vs r ≡ kept_with (store_at ws p) c → r.scan ≡ scanned p.scan (words_for p.scan c)
+  pub kept_here : store_at vs r ≡ kept_with (store_at ws p) c → r.scan ≡ scanned p.scan (words_for p.scan c)
       → (store_at vs r ≡ kept_with (store_at ws p) c) × Aligned vs r
   kept_here e q =
       let k = keeps (store_at ws p) c a.long a.sound f in
