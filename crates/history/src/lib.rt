@@ -8,8 +8,7 @@ mod scan;
 
 ghost use Rattle.std.specs.Prelude.{◌≡◌, ◌<◌, ◌≤◌, Some, None};
 ghost use Rattle.laws.specs.Base.{if};
-ghost use Rattle.history.specs.Store.{kept, fresh_store, sound_store};
-ghost use Rattle.history.specs.Support.Ring.{in_use};
+ghost use Rattle.history.specs.Store.{fresh_store, sound_store};
 ghost use Rattle.history.specs.Support.Tally.{tally_of};
 
 pub use keep::{Change, Pen};
@@ -60,7 +59,7 @@ impl Store {
     // The words in use, of a store whose bounds are in range.
     fn ring(&self) -> Ring<'_>
         requires { (self.now.oldest < 1024) × (self.now.used ≤ 1024) }
-        ensures { in_use result ≡ kept self.now }
+        ensures { (result.words.now ≡ self.now.words) × (result.oldest ≡ self.now.oldest) × (result.used ≡ self.now.used) }
     {
         Ring {
             words: &self.words,
