@@ -337,3 +337,40 @@ module _ {kit : Kit} {busy : List ℕ} {b : Board} {w : Watch} {rec : List ℕ} 
               firm = λ e. rw hb (firm_at e);
               still = calm_at;
             }
+
+-- ---- a turn of the loop, by either kind of record
+
+module _ {first : Board} {log old : List ℕ} {kit : Kit} {busy : List ℕ} {n : ℕ} (t : Begun first log old kit busy n) {b : Board} {rows : List ℕ} {w : Watch} {i : ℕ}
+    (less : i < n) (here : Stands first log old kit b rows w i) where
+  abbrev rec : List ℕ
+  rec = rec_at log i
+
+  abbrev laid_rows : List ℕ → List ℕ
+  laid_rows part = put_mid (12 * i) (length rows - 12 * i) rows part
+
+  pub command_stands : (p : Ptc) (taken : Bool) (row part : List ℕ) → is_crossing rec ≡ false
+      → p ≡ (commanded_of kit.waits (get_or rec 2 0) (get_or b.ptcs (get_or rec 1 0) fresh_ptc)).ptc
+      → taken ≡ (commanded_of kit.waits (get_or rec 2 0) (get_or b.ptcs (get_or rec 1 0) fresh_ptc)).taken
+      → row ≡ command_row taken → part ≡ row ++ drop 12 (take (length rows - 12 * i) (drop (12 * i) rows))
+      → Stands first log old kit (with_ptcs b (set b.ptcs (get_or rec 1 0) p)) (laid_rows part) (record { sight = w.sight; shown = w.shown; calm = false }) (i + 1)
+  command_stands p taken row part kind e k r q =
+      let c = comes t less here in
+      let o = obeyed b kit rec c.made c.formed kind p taken row e k r in
+      stands t less here _ _ row part o.0 o.1 (watches_obeyed kit b _ w rec kind o.0 here.watched) q
+
+  module _ (kind : is_crossing rec ≡ true) (seen : Sight)
+      (looks : seen ≡ sight_of busy kit.lanes kit.slots b.clock w.sight.turn w.calm b.held.carried b.held.believed rec)
+      (scene : Scene) (sees : scene ≡ scene_for kit.times kit.waits kit.rules (get_or b.ptcs (seen.turn.holder % 8) fresh_ptc) seen b.marks b.clock)
+      (cur : List Ptc) (bytes shown : List ℕ) (calm : Bool)
+      (a : Acted (plans_in kit) scene seen.classes seen.requests seen.due b.ptcs w.shown cur bytes shown calm) where
+    pub crossing_stands : (held : Held) (carried : Bool) (mark : ℕ) (clock : Clock) (marks row part : List ℕ) → held ≡ next_held b.held (codes_in rec)
+        → carried ≡ carries bytes → mark ≡ one carried → marks ≡ passed b.marks b.clock.crossings mark → clock ≡ clock_of kit.orbit b.clock seen.marker bytes
+        → row ≡ crossing_row bytes shown → part ≡ row ++ drop 12 (take (length rows - 12 * i) (drop (12 * i) rows))
+        → Stands first log old kit (record { settings = b.settings; clock = clock; turn = seen.turn; ptcs = cur; held = held; marks = marks }) (laid_rows part)
+        (record { sight = seen; shown = shown; calm = calm }) (i + 1)
+    crossing_stands held carried mark clock marks row part h c m k x r q =
+        let o = comes t less here in
+        stands t less here _ _ row part
+        (crossed_is o kind seen looks scene sees cur bytes shown calm a held carried mark clock marks row h c m k x)
+        (row_is o kind seen looks scene sees cur bytes shown calm a held carried mark clock marks row h r)
+        (watches_crossed o kind seen looks scene sees cur bytes shown calm a held carried mark clock marks row h) q
