@@ -4,14 +4,20 @@ ghost use Rattle.std.specs.Prelude.{◌<◌, ◌≤◌, length};
 use std::io;
 use std::io::Write;
 
-// The bytes in groups.
+fn hex(n: u8) -> u8
+    requires { n < 16 }
+{
+    if n < 10 { b'0' + n } else { b'a' + (n - 10) }
+}
+
+// The bytes in groups. A byte's two digits go out at once: standard output holds nothing back, so each write is a call of the system.
 fn say_bytes<W: Write>(out: &mut W, bytes: &[u8], group: usize) -> io::Result<()>
     requires { 0 < group }
 {
     for part in bytes.chunks(group) {
         write!(out, " ")?;
         for byte in part {
-            write!(out, "{byte:02x}")?;
+            out.write_all(&[hex(*byte / 16), hex(*byte % 16)])?;
         }
     }
     Ok(())
@@ -19,9 +25,9 @@ fn say_bytes<W: Write>(out: &mut W, bytes: &[u8], group: usize) -> io::Result<()
 
 // Whether a call left something as it was. No contract says what is printed: `stdout` does.
 pub fn say_left<W: Write>(out: &mut W, what: &[u8], same: bool) -> io::Result<()> {
-    let left = if same { "kept" } else { "changed" };
+    let left = if same { " kept" } else { " changed" };
     out.write_all(what)?;
-    write!(out, " {left}")
+    out.write_all(left.as_bytes())
 }
 
 // Whether bytes that were 170 everywhere still are. No contract says what is printed: `stdout` does.

@@ -31,15 +31,15 @@ fn print_report<W: Write>(out: &mut W, board: &Board) -> io::Result<()>
     out.write_all(&text[..n])
 }
 
-fn run<R: Files + Print>(rt: &R) -> Result<(), Stop> {
+fn run<R: Files + Print>(rt: &R) -> Result<(), Stop<'static>> {
     let mut text = files::open(rt, "board.set");
     let opened = shell::open_board(&mut text);
-    ending::accepted("board.set", opened.failed, opened.made.answer)?;
+    ending::accepted(b"board.set", opened.failed, opened.made.answer)?;
     let mut board = opened.made.board;
     let mut log = files::open(rt, "run.rec");
     let last = shell::replay_log(&mut log, &mut board);
-    ending::accepted("run.rec", last.got.failed, last.answer)?;
-    print_report(&mut io::writer(rt), &board).map_err(|error| Stop::At("standard output", error))
+    ending::accepted(b"run.rec", last.got.failed, last.answer)?;
+    print_report(&mut io::writer(rt), &board).map_err(|error| Stop::At(b"standard output", error))
 }
 
 fn main(rt: HostRuntime) -> ExitCode {

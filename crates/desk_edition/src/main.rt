@@ -51,13 +51,13 @@ fn print_text<W: Write>(out: &mut W, s: &Settings) -> io::Result<()>
     out.write_all(&text[..n])
 }
 
-fn run(rt: &HostRuntime) -> Result<(), Stop> {
+fn run(rt: &HostRuntime) -> Result<(), Stop<'static>> {
     let mut file = files::open(rt, "board.set");
     let opened = open_settings(&mut file);
     let read = opened.read;
-    ending::accepted("board.set", opened.failed, read.answer)?;
+    ending::accepted(b"board.set", opened.failed, read.answer)?;
     print_text(&mut io::writer(rt), &read.settings).map_err(|error| Stop::At(
-        "standard output",
+        b"standard output",
         error,
     ))
 }

@@ -89,24 +89,24 @@ fn lay_history(store: &Store, input: usize, out: &mut [u8]) -> usize
     store.read_length()
 }
 
-fn print_history<W: Write>(to: &mut W, store: &Store, input: usize) -> Result<(), Stop>
+fn print_history<W: Write>(to: &mut W, store: &Store, input: usize) -> Result<(), Stop<'static>>
     requires { Closing input store.now }
 {
     let mut out = [0; 7168];
     let n = lay_history(store, input, &mut out);
     to.write_all(&out[..n])
-        .map_err(|error| Stop::At("standard output", error))
+        .map_err(|error| Stop::At(b"standard output", error))
 }
 
-fn run<R: Files + Print>(rt: &R, input: usize) -> Result<(), Stop> {
+fn run<R: Files + Print>(rt: &R, input: usize) -> Result<(), Stop<'static>> {
     let opened = shell::open_board(&mut files::open(rt, "board.set"));
-    ending::accepted("board.set", opened.failed, opened.made.answer)?;
+    ending::accepted(b"board.set", opened.failed, opened.made.answer)?;
     if LAST_INPUT < input {
         return Err(Stop::Refused(Refusal::Range(input)));
     }
     let mut log = files::open(rt, "run.rec");
     let pass = go_through(&mut log, opened.made.board, input);
-    ending::accepted("run.rec", pass.failed, pass.answer)?;
+    ending::accepted(b"run.rec", pass.failed, pass.answer)?;
     print_history(&mut io::writer(rt), &pass.store, input)
 }
 

@@ -100,23 +100,23 @@ fn go_through<R: Read, W: Write>(
 
 // Writes the rows, and answers whether the log was the same in both readings. The log stays open while it is opened again, so that
 // one can see from outside how far each reading is (tools/progress).
-fn run<R: Files + Print>(rt: &R) -> Result<bool, Stop> {
+fn run<R: Files + Print>(rt: &R) -> Result<bool, Stop<'static>> {
     let mut text = files::open(rt, "board.set");
     let opened = shell::open_board(&mut text);
-    ending::accepted("board.set", opened.failed, opened.made.answer)?;
+    ending::accepted(b"board.set", opened.failed, opened.made.answer)?;
     let fresh = opened.made.board;
     let mut out = io::writer(rt);
     let mut log = files::open(rt, "run.rec");
     let first = go_through(&mut log, fresh, false, &mut out);
-    ending::accepted("run.rec", first.failed, first.answer)?;
+    ending::accepted(b"run.rec", first.failed, first.answer)?;
     let mut again = files::open(rt, "run.rec");
     let second = go_through(&mut again, fresh, true, &mut out);
     if let Some(error) = second.failed {
-        return Err(Stop::At("run.rec", error));
+        return Err(Stop::At(b"run.rec", error));
     }
     match second.written {
         Ok(()) => Ok(first.is_same(&second)),
-        Err(error) => Err(Stop::At("standard output", error)),
+        Err(error) => Err(Stop::At(b"standard output", error)),
     }
 }
 

@@ -6,17 +6,17 @@ use answer::Refusal;
 use std::io::Error;
 
 #[derive(Clone, Copy)]
-pub enum Stop {
-    // An error of the system's, after the name of the file that it was about.
-    At(&'static str, Error),
+pub enum Stop<'a> {
+    // An error of the system's, after the name of what it was about: any bytes, as a file may have them.
+    At(&'a [u8], Error),
     // One of the numbered refusals.
     Refused(Refusal),
 }
 
-impl From<Refusal> for Stop {
+impl<'a> From<Refusal> for Stop<'a> {
     ghost from_gives = { λ refusal stop. stop ≡ Refused refusal };
 
-    fn from(refusal: Refusal) -> Stop {
+    fn from(refusal: Refusal) -> Stop<'a> {
         Stop::Refused(refusal)
     }
 }

@@ -7,7 +7,7 @@ ghost use Rattle.std.specs.Prelude.{◌≡◌, is_ok, is_some, not};
 ghost use Rattle.std.specs.Process.{exit_status};
 ghost use Rattle.laws.specs.Base.{if};
 ghost use Rattle.answer.specs.Told.{told};
-ghost use Rattle.ending.specs.Ends.{over};
+ghost use Rattle.ending.specs.Ends.{over, accepted_of};
 
 use answer::Answer;
 pub use cause::Stop;
@@ -100,21 +100,22 @@ pub fn refuse(rt: &(impl Print + Eprint), a: Answer) -> ExitCode
 }
 
 // The status of a program that ended so. No contract can say what is printed.
-pub fn end(rt: &(impl Print + Eprint), ended: Result<(), Stop>) -> ExitCode
-    ensures { exit_status result ≡ if (is_ok ended) 0 1 }
+pub fn end(rt: &(impl Print + Eprint), ended: Result<(), Stop<'_>>) -> ExitCode
+    ensures { exit_status result ≡ if (is_ok ended.entry) 0 1 }
 {
     let Err(why) = ended else {
         return ExitCode::SUCCESS;
     };
     match why {
-        Stop::At(file, error) => stop(rt, file.as_bytes(), error),
+        Stop::At(file, error) => stop(rt, file, error),
         Stop::Refused(refusal) => refuse(rt, Err(refusal)),
     }
 }
 
 // What became of reading a file: an error in reading is told before what the file's bytes were answered.
-pub fn accepted(file: &'static str, failed: Option<Error>, a: Answer) -> Result<(), Stop>
-    ensures { is_ok result ≡ not (over (is_some failed) (told a)) }
+pub fn accepted<'a>(file: &'a [u8], failed: Option<Error>, a: Answer) -> Result<(), Stop<'a>>
+    ensures whole { result ≡ accepted_of file.entry failed a }
+    ensures goes_on { is_ok result ≡ not (over (is_some failed) (told a)) }
 {
     if let Some(error) = failed {
         return Err(Stop::At(file, error));

@@ -56,6 +56,10 @@ laid {A} {B} d e a b p q = ap₂ (λ (x : A) (y : B). (x, y)) (known d a.0 b.0 p
 laid_within : {A B : Type 0} (d : A) (e : B) (P : A → Type 0) → One (λ (o : A × B). (o.0 ≡ d) × (o.1 ≡ e) × P o.0)
 laid_within d e P a b p q = laid d e a b (p.0, p.1) (q.0, q.1)
 
+-- what is lent may be said first
+led : {A B : Type 0} (d : A) (e : B) → One (λ (o : A × B). (o.1 ≡ e) × (o.0 ≡ d))
+led d e a b p q = laid d e a b (p.1, p.0) (q.1, q.0)
+
 filled : {B : Type 0} (e : B) → One (λ (o : Unit {0} × B). o.1 ≡ e)
 filled {B} e a b p q = ap (λ (y : B). (tt, y)) (known e a.1 b.1 p q)
 
@@ -194,6 +198,8 @@ one_outcome =
       relations = λ κs s. told_known _;
       put_row = λ κs buffer row. filled _;
       pass = λ κs ring c x. filled _;
+      command = λ κs p waits command. led _ _;
+      same = λ κs a b. bounded _ _;
       code = λ carried believed now. bounded _ _;
       code_at = λ κs codes input. bounded _ _;
       keep = λ κs pen words c. one_kept _;

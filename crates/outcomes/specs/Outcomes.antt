@@ -8,16 +8,19 @@ use Rattle.answer.specs.declared.Refusal.{Refusal}
 use Rattle.answer.specs.Told.{Answer, told, succeeded}
 use Rattle.text.specs.declared.Range.{Range}
 use Rattle.settings.specs.declared.Settings.{Settings}
+use Rattle.settings.specs.declared.names.Waits.{Waits}
 use Rattle.steady.specs.declared.Held.{Held}
 use Rattle.kit.specs.declared.Kit.{Kit}
 use Rattle.clock.specs.declared.Clock.{Clock}
 use Rattle.clock.specs.declared.Turn.{Turn}
+use Rattle.ptc.specs.declared.Ptc.{Ptc}
 use Rattle.history.specs.declared.Store.{Store}
 use Rattle.history.specs.declared.keep.Change.{Change}
 use Rattle.history.specs.declared.keep.Pen.{Pen}
 use Rattle.follower.specs.declared.Follower.{Follower}
 use Rattle.still.specs.declared.Sight.{Sight}
 use Rattle.board.specs.declared.Board.{Board}
+use Rattle.words.proofs.same.Reads as same_contract
 use Rattle.answer.proofs.number.Reads as number_contract
 use Rattle.answer.proofs.Refusal.number.Reads as refusal_number_contract
 use Rattle.text.proofs.read_line.Reads as read_line_contract
@@ -41,6 +44,7 @@ use Rattle.steady.proofs.code.Reads as code_contract
 use Rattle.steady.proofs.Held.is_firm.Reads as is_firm_contract
 use Rattle.steady.proofs.Held.follow.Reads as follow_contract
 use Rattle.throttle.proofs.pass.Reads as pass_contract
+use Rattle.ptc.proofs.Ptc.command.Reads as command_contract
 use Rattle.records.proofs.test_block.Reads as test_block_contract
 use Rattle.records.proofs.test_blocks.Reads as test_blocks_contract
 use Rattle.records.proofs.put_row.Reads as put_row_contract
@@ -150,6 +154,9 @@ pub record OneOutcome : Type 0 where
   pub relations : (κs : Lfts 1) (s : Bor Settings) → OneValue (relations_contract.Post κs) (s, tt)
   pub put_row : (κs : Lfts 1) (buffer : Lent) (row : List ℕ) → OneFilling (put_row_contract.Post κs) (λ out. (out, (row, tt))) buffer
   pub pass : (κs : Lfts 1) (ring : Lent) (c x : ℕ) → OneFilling (pass_contract.Post κs) (λ marks. (marks, (c, (x, tt)))) ring
+  pub command : (κs : Lfts 1) (p : MutBor Ptc) (waits : Waits) (command : ℕ)
+      → OneFilling (command_contract.Post κs) (λ q. (q, (waits, (command, tt)))) p
+  pub same : (κs : Lfts 2) (a b : Shown) → OneValue (same_contract.Post κs) (a, (b, tt))
   pub code : (carried believed now : ℕ) → OneValue (code_contract.Post tt) (carried, (believed, (now, tt)))
   pub code_at : (κs : Lfts 1) (codes : Shown) (input : ℕ) → OneValue (code_at_contract.Post κs) (codes, (input, tt))
   pub keep : (κs : Lfts 2) (pen : MutBor Pen) (words : Lent) (c : Change) → OneHolding (keep_contract.Post κs) (λ p ws. (p, (ws, (c, tt)))) pen words

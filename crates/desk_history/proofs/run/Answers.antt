@@ -13,12 +13,12 @@ goes_on false e = refl
 pub go_through-pass-requires : goal.go_through-pass-requires
 go_through-pass-requires g c =
     let o = c.open_board-opened in
-    let opened : OpenedBy o.result.made.board = opened_by_lem o.result.made (is_some o.result.failed) o.ensures (goes_on _ c.in_ok-accepted.ensures) in
+    let opened : OpenedBy o.result.made.board = opened_by_lem o.result.made (is_some o.result.failed) o.ensures (goes_on _ c.in_ok-accepted.ensures.goes_on) in
     (opened_sound _ opened, c.if-input-gt-LAST_INPUT.false)
 
 pub print_history-requires : goal.print_history-requires
 print_history-requires g c =
     let o = c.open_board-opened in
     let p = c.go_through-pass in
-    let opened : OpenedBy o.result.made.board = opened_by_lem o.result.made (is_some o.result.failed) o.ensures (goes_on _ c.in_ok-accepted.ensures) in
-    closing _ _ opened p.result.answer p.result.store (is_some p.result.failed) c.if-input-gt-LAST_INPUT.false p.ensures (goes_on _ c.in_ok-accepted-2.ensures)
+    let opened : OpenedBy o.result.made.board = opened_by_lem o.result.made (is_some o.result.failed) o.ensures (goes_on _ c.in_ok-accepted.ensures.goes_on) in
+    closing _ _ opened p.result.answer p.result.store (is_some p.result.failed) c.if-input-gt-LAST_INPUT.false p.ensures (goes_on _ c.in_ok-accepted-2.ensures.goes_on)
