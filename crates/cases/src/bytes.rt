@@ -32,7 +32,9 @@ pub fn say_left<W: Write>(out: &mut W, what: &[u8], same: bool) -> io::Result<()
 
 // Whether bytes that were 170 everywhere still are. No contract says what is printed: `stdout` does.
 pub fn say_untouched<W: Write>(out: &mut W, what: &[u8], bytes: &[u8]) -> io::Result<()> {
-    say_left(out, what, bytes.iter().all(|b| *b == 170))
+    // To the end in any case: a look that may stop early is one byte at a time.
+    let same = bytes.iter().fold(true, |same, b| same & (*b == 170));
+    say_left(out, what, same)
 }
 
 // The bytes before a place, in groups, and whether a call that was done wrote nothing after them, or a refused one nothing at
