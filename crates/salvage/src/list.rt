@@ -55,9 +55,11 @@ fn put_mends(list: &mut [u8], number: u64, rec: &[u8]) -> usize
     ensures laid { Laid list.old 0 (list_text (changes_to 24 number rec.now)) result list.new }
     ensures short { result ≤ 1248 }
 {
+    let kind = rec[0];
     let mut at = 0;
-    for (k, was) in rec.iter().enumerate() {
-        at = put_mend(list, at, number, rec[0], k, *was);
+    // Over a number of turns that is known where it is compiled: over the record's bytes a list of many entries takes longer.
+    for k in 0..RECORD {
+        at = put_mend(list, at, number, kind, k, rec[k]);
     }
     at
 }

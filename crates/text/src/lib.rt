@@ -118,6 +118,11 @@ fn put_number(out: &mut [u8], at: usize, n: u64) -> usize
     requires { at + length (decimal n) ≤ length out.old }
     ensures { (result ≡ at + length (decimal n)) × (out.new ≡ put out.old at (decimal n)) }
 {
+    // Most numbers of a list of changes have one digit, for which there is nothing to divide.
+    if n < 10 {
+        out[at] = b'0' + n as u8;
+        return at + 1;
+    }
     let end = at + width(n);
     let mut rest = n;
     for p in (at..end).rev() {

@@ -1,14 +1,14 @@
 -- `text::put_number` meets its contract: the digits that are left, laid from the same place, make what the whole number makes.
--- A turn lays the last digit of what is left.
+-- A turn lays the last digit of what is left; a number of one digit is that digit.
 use mathlib.Core.Path.{◌≡◌, refl, sym, ◌∙◌}
-use mathlib.Core.List.{List}
+use mathlib.Core.List.{List, []}
 use Prim.Native.Nat.{ℕ, suc, ◌+◌, ◌-◌, ◌/◌, ◌%◌, ◌≤◌, ◌<◌}
 use native.Mathlib.Omega.{arith}
 use lib.ListN.{length, set, length-set}
 use Rattle.text.specs.Bytes.{put}
 use Rattle.text.specs.Decimal.{decimal}
-use Rattle.text.proofs.Bytes.{put_nil, put_last}
-use Rattle.text.proofs.Decimal.{last_digits, length_last, all_digits}
+use Rattle.text.proofs.Bytes.{put_nil, put_cons, put_last}
+use Rattle.text.proofs.Decimal.{decimal_small, one_digit, last_digits, length_last, all_digits}
 use Rattle.text.proofs.put_number.Goals as goal
 
 start : (d : List ℕ) (at n w : ℕ) → w ≡ length (decimal n) → put d at (last_digits (at + w - at) n) ≡ put d at (decimal n)
@@ -24,6 +24,18 @@ turn d at p r more room =
 
 finish : (d : List ℕ) (at p r : ℕ) → p ≤ at → put d at (last_digits (p - at) r) ≡ d
 finish d at p r done = let none : p - at ≡ 0 = omega arith in rw (none, put_nil)
+
+alone : (d : List ℕ) (at n : ℕ) → n < 10 → at < length d → set d at (48 + n) ≡ put d at (decimal n)
+alone d at n h room = rw (decimal_small n h, put_cons d at (48 + n) [] room, put_nil)
+
+pub bounds-out-at : goal.bounds-out-at
+bounds-out-at c = omega (arith, one_digit c.args.n c.if-n-lt10.true, c.requires)
+
+pub returns-then-n-lt10 : goal.returns-then-n-lt10
+returns-then-n-lt10 c =
+    let h = c.if-n-lt10.true in
+    let w = one_digit c.args.n h in
+    (rw w, alone _ _ _ h (omega (arith, w, c.requires)))
 
 pub loop-p-init : goal.loop-p-init
 loop-p-init c = (refl, start _ _ _ _ c.width.ensures)
