@@ -25,6 +25,17 @@ oldest_group ws p a h =
     let f = first (kept (store_at ws p)) (sound_parts_lem _ a.sound).groups (omega (arith, content_long ws p.oldest p.used)) in
     (omega (arith, f.least), omega (arith, f.most))
 
+-- a change kept under the last header, and one behind a header of its own
+module _ (ws : List ℕ) (p : Pen) (c : Change) (a : Aligned ws p) where
+  pub kept_with_under : under p.scan c ≡ true → kept_with (store_at ws p) c ≡ pushed (roomed 1 (store_at ws p)) (word_of c)
+  unfolding kept_with words_for
+  kept_with_under u = rw (← a.scan, u)
+
+  pub kept_with_own : under p.scan c ≡ false
+      → kept_with (store_at ws p) c ≡ pushed (pushed (pushed (pushed (roomed 4 (store_at ws p)) 0) (c.orbit / 65536)) (c.orbit % 65536)) (word_of c)
+  unfolding kept_with words_for
+  kept_with_own u = rw (← a.scan, u)
+
 -- where the scan is after the words of a change
 module _ (p : Pen) (c : Change) where
   pub scan_under : under p.scan c ≡ true → scanned p.scan (words_for p.scan c) ≡ after p.scan (word_of c)
